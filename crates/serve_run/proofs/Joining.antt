@@ -1,37 +1,35 @@
 -- A caller that came: a session for it, or the end of its link.
-use Rattle.std.proofs.Common.{◌≡◌, ◌⊎◌, ◌≤◌, ◌+◌, ◌==◌, ℕ, Bool, true, false, List, [], ◌∷◌, ◌++◌, refl, sym, ap, ◌∙◌, subst, inl, inr, arith}
-use Rattle.std.specs.Prelude.{Option, Some, None, Result, Ok, Err, slice_set, option_map}
+use Rattle.std.proofs.Common.{◌≡◌, ◌⊎◌, ◌≤◌, ◌+◌, ◌==◌, ℕ, Bool, true, List, [], ◌∷◌, ◌++◌, refl, sym, ap, ◌∙◌, subst, inl, inr, arith}
+use Rattle.std.specs.Prelude.{Option, Some, None, Err, slice_set, option_map}
 use Rattle.std.specs.List.{slice_get}
-use Rattle.std.proofs.lemmas.List.{append-nil}
 use Rattle.outside.specs.Causes.{Rose, next_count}
-use Rattle.outside.specs.CauseLaws.{rose_later}
 use Rattle.world_model.specs.Outcomes.{enter_outcome}
-use Rattle.world_model.specs.Seats.{Knows, Act, Adds}
-use Rattle.world_model.specs.declared.events.CallOutcome.TheVariants as called
+use Rattle.world_model.specs.Seats.{Knows, Adds}
 use Rattle.world_model.specs.declared.events.EnterFault.{EnterFault}
 use Rattle.world_model.specs.declared.events.EnterFault.TheVariants as refused
 use Rattle.world_model.specs.declared.events.Event.TheVariants as event
 use Rattle.world_model.specs.declared.events.Outcome.{Outcome}
 use Rattle.world_model.specs.declared.events.Outcome.TheVariants as outcome
-use Rattle.ready_links.specs.Doors.{DoorState}
-use Rattle.ready_links.specs.Links.{LinkState, IsNew}
-use Rattle.ready_links.specs.Waits.{WaitState}
+use Rattle.outside.specs.Doors.{DoorState}
+use Rattle.outside.specs.Links.{LinkState, IsNew}
+use Rattle.outside.specs.Waits.{WaitState}
 use Rattle.session_run.specs.Calls.{Call}
 use Rattle.session_run.specs.Gains.{Gains, gains_more, gains_one, made}
-use Rattle.session_run.specs.Sessions.{SessionState, opened}
+use Rattle.session_run.specs.Sessions.{SessionState, opened, end_of_asking}
 use Rattle.session_run.specs.SoFar.{AskedSoFar, WrittenSoFar}
 use Rattle.session_run.specs.AskedSteps.{asked_at_first}
 use Rattle.session_run.specs.WrittenSteps.{written_at_first}
 use Rattle.serve_run.specs.Steps.{Step, IsAmong, Joined, Removed, steps_acts, calls_of, takes_of, callers_of, numbered, behind_callers, AreTimely}
-use Rattle.serve_run.specs.Runs.{LinkRun, LinkFate, TurnedOut, Starved, Unwatched, Served, IsRefusal, IsUnserved, HasFate, fate_outcome, IsRun, AreRuns, WatchFault, one_if, times, times_shut, is_through, starved_in, starved_of, told_of}
+use Rattle.serve_run.specs.Runs.{LinkRun, LinkFate, TurnedOut, Starved, Unwatched, Served, IsRefusal, IsUnserved, fate_outcome, IsRun, AreRuns, WatchFault, MayEnd, EndCause, FateCause, IsRemoved, one_if, times, times_shut, is_through, starved_in, starved_of, told_of}
+use Rattle.serve_run.specs.declared.terms.Terms.{Terms}
 use Rattle.serve_run.specs.Loops.{Around}
-use Rattle.serve_run.specs.LoopStates.{LoopState, loop_state, IsOpen, IsGone, AreGone, Holds, Keeps, NeverJoined, time_at, times_open}
+use Rattle.serve_run.specs.LoopStates.{loop_state, IsOpen, IsGone, AreGone, Holds, NeverJoined, times_open}
 use Rattle.serve_run.specs.LoopEnds.{ShutBy, HasPlace}
 use Rattle.serve_run.proofs.Numbers.{never_joined}
-use Rattle.serve_run.proofs.Owners.{reassign, owner_at, owner_other, all_gone_none, open_owner}
+use Rattle.serve_run.proofs.Owners.{reassign, owner_at, owner_other, all_gone_none}
 use Rattle.serve_run.proofs.Places.{push_none, set_some, times_set, times_last}
-use Rattle.serve_run.proofs.Records.{Spares, spared_calls, spared_takes, callers_more, among_behind, joined_other, never_before, open_on, runs_on, runs_push, gone_push, shut_times, caller_times, starved_push, faults_on, faults_push, through_push, shut_on, told_by, numbered_next, behind_next}
-use Rattle.serve_run.proofs.Shutting.{shut_told, shut_untold, shut_faults}
+use Rattle.serve_run.proofs.Records.{Spares, spared_calls, spared_takes, callers_more, among_behind, joined_other, never_before, open_on, runs_on, runs_push, gone_push, shut_times, caller_times, starved_push, faults_on, faults_push, cause_on, causes_on, causes_push, removed_on, removed_push, among_second, through_push, shut_on, told_by, numbered_next, behind_next}
+use Rattle.serve_run.proofs.Shutting.{shut_told, shut_untold, shut_faults, shut_over_same}
 use Rattle.serve_run.proofs.Stepping.{timely_more, gains_steps}
 
 -- the places of a table are as before, but for one more with nobody
@@ -43,8 +41,8 @@ placed_times : (old new : List (Option SessionState)) → HasPlace old new → (
 placed_times old new (inl same) c = ap (times_open c) same
 placed_times old new (inr more) c = let t = times_last c old None in ap (times_open c) more ∙ omega (arith, t)
 
-module _ (told : Option ℕ) (old : Around) (d : DoorState) (w : WaitState) (k : Knows) (places : List (Option SessionState)) (joined starved : ℕ) (is_over : Bool)
-    (came : LinkState) (is_new : IsNew d.links came) (h : Holds told old (loop_state k d w places joined starved is_over true)) where
+module _ (told : Option ℕ) (terms : Terms) (old : Around) (d : DoorState) (w : WaitState) (k : Knows) (places : List (Option SessionState)) (joined starved : ℕ) (is_over : Bool)
+    (came : LinkState) (is_new : IsNew d.links came) (h : Holds told terms old (loop_state k d w places joined starved is_over true)) where
   newly : IsNew came.caller came
   newly = record { caller_is = refl; unwritten = is_new.unwritten; unfailed = is_new.unfailed }
 
@@ -73,8 +71,8 @@ module _ (told : Option ℕ) (old : Around) (d : DoorState) (w : WaitState) (k :
       (gains : Gains k k' (steps_acts more)) (timely : AreTimely told more) (one : callers_of more ≡ came.caller ∷ []) (spares : (n : ℕ) → Spares more n)
       (run_is : IsRun told (h.steps ++ more) (record { came = came; went = came; fate = fate; is_told = b }))
       (still : (j : ℕ) → (z : SessionState) → slice_get places j ≡ Some (Some z) → owner z.number ≡ h.owner z.number)
-      (gone : AreGone owner h.runs) (off : IsGone owner fate) (placed : HasPlace places places') (waits : w1.shut ≡ w.shut) (later : w.faults ≤ w1.faults)
-      (shuts : ShutBy w1 w' b came) (fault : WatchFault (Rose old.wait.faults w'.faults) fate) (through : is_through fate ≡ true) where
+      (gone : AreGone owner h.runs) (off : IsGone owner fate) (placed : HasPlace places places') (waits : w1.shut ≡ w.shut) (asks : w1.over ≡ w.over) (later : w.faults ≤ w1.faults)
+      (shuts : ShutBy w1 w' b came) (fault : WatchFault (Rose old.wait.faults w'.faults) fate) (cause : FateCause (MayEnd terms w'.over) fate) (off_hall : IsRemoved (h.steps ++ more) fate) (through : is_through fate ≡ true) where
     abbrev run : LinkRun
     run = record { came = came; went = came; fate = fate; is_told = b }
 
@@ -99,12 +97,18 @@ module _ (told : Option ℕ) (old : Around) (d : DoorState) (w : WaitState) (k :
     rose_on : Rose old.wait.faults w.faults → Rose old.wait.faults w'.faults
     rose_on r = let n = not_less in omega (arith, n, r)
 
+    over_still : w'.over ≡ w.over
+    over_still = shut_over_same w1 w' b came shuts ∙ asks
+
+    may_still : MayEnd terms w.over → MayEnd terms w'.over
+    may_still m = subst (λ (o : Bool). MayEnd terms o) (sym over_still) m
+
     told_shut : w'.shut ≡ option_map (λ links. links ++ told_of run) w.shut
     told_shut = told_by w.shut w'.shut run b refl
         (λ is. shut_told w1 w' b came shuts is ∙ ap (option_map (λ (links : List LinkState). links ++ came ∷ [])) waits)
         (λ is. shut_untold w1 w' b came shuts is ∙ waits)
 
-    pub turned_away : Holds told old (loop_state k' (record d { links = next_count d.links }) w' places' (joined + 1) (starved + starved_in fate) is_over b)
+    pub turned_away : Holds told terms old (loop_state k' (record d { links = next_count d.links }) w' places' (joined + 1) (starved + starved_in fate) is_over b)
     turned_away = record {
       steps = h.steps ++ more;
       gains = gains_steps old.knows k k' h.steps more h.gains gains;
@@ -121,7 +125,11 @@ module _ (told : Option ℕ) (old : Around) (d : DoorState) (w : WaitState) (k :
       shut = shut_on old.wait.shut w.shut w'.shut h.runs run h.shut told_shut;
       starved_are = let more_one = starved_push h.runs run in let was : starved ≡ starved_of h.runs = h.starved_are in omega (arith, more_one, was);
       unwatched = faults_push (Rose old.wait.faults w'.faults) h.runs run (faults_on (Rose old.wait.faults w.faults) (Rose old.wait.faults w'.faults) h.runs rose_on h.unwatched) fault;
+      early = causes_push (MayEnd terms w'.over) h.runs run (causes_on (MayEnd terms w.over) (MayEnd terms w'.over) h.runs may_still h.early) cause;
+      early_open = λ j z is. cause_on (MayEnd terms w.over) (MayEnd terms w'.over) (end_of_asking z.asking) z.taking may_still
+          (h.early_open j z (placed_less places places' placed j z is));
       through = λ is. through_push h.runs run (h.through refl) through is;
+      removed = λ is. removed_push (h.steps ++ more) h.runs run (removed_on h.steps more h.runs (h.removed refl)) off_hall;
       addr = h.addr;
       door_ends = h.door_ends;
       over_cause = h.over_cause;
@@ -134,13 +142,13 @@ module _ (told : Option ℕ) (old : Around) (d : DoorState) (w : WaitState) (k :
 
   -- the Enter was refused
   pub turned_out : (k' : Knows) (w' : WaitState) (b : Bool) (o : Outcome) → IsRefusal o → Adds event.Enter o k k' → ShutBy w w' b came
-      → Holds told old (loop_state k' (record d { links = next_count d.links }) w' places (joined + 1) starved is_over b)
+      → Holds told terms old (loop_state k' (record d { links = next_count d.links }) w' places (joined + 1) starved is_over b)
   turned_out k' w' b o is adds shuts =
-      subst (λ (n : ℕ). Holds told old (loop_state k' (record d { links = next_count d.links }) w' places (joined + 1) n is_over b)) (same starved)
+      subst (λ (n : ℕ). Holds told terms old (loop_state k' (record d { links = next_count d.links }) w' places (joined + 1) n is_over b)) (same starved)
       (turned_away k' w w' places b (TurnedOut o) (Joined came.caller o ∷ []) h.owner
       (gains_one k k' (event.Enter, o) (made event.Enter o k k' adds)) (tt, tt) refl (λ n. (refl, refl))
       (record { is_new = newly; joined = among_behind (Joined came.caller o) h.steps []; fate = (is, refl) })
-      (λ j z there. refl) h.gone tt (inl refl) refl (omega arith) shuts tt refl)
+      (λ j z there. refl) h.gone tt (inl refl) refl refl (omega arith) shuts tt tt tt refl)
     where
       same : (n : ℕ) → n + 0 ≡ n
       same n = omega arith
@@ -170,28 +178,29 @@ module _ (told : Option ℕ) (old : Around) (d : DoorState) (w : WaitState) (k :
     -- and removed again for want of memory
     pub turned_starved : (k2 : Knows) (w' : WaitState) (places' : List (Option SessionState)) (b : Bool) → Adds (event.Remove n) outcome.Done k1 k2
         → HasPlace places places' → ShutBy w w' b came
-        → Holds told old (loop_state k2 (record d { links = next_count d.links }) w' places' (joined + 1) (starved + 1) is_over b)
+        → Holds told terms old (loop_state k2 (record d { links = next_count d.links }) w' places' (joined + 1) (starved + 1) is_over b)
     turned_starved k2 w' places' b removed placed shuts =
         let more : List Step = Joined came.caller (outcome.Entered n) ∷ Removed n ∷ [] in
         turned_away k2 w w' places' b (Starved n) more (reassign h.owner n None) (removed_gains k2 removed) (tt, (tt, tt)) refl (λ m. (refl, refl))
         (record { is_new = newly; joined = among_behind (Joined came.caller (outcome.Entered n)) h.steps (Removed n ∷ []); fate = unserved more (λ m. (refl, refl)) })
-        (λ j z is. owner_other h.owner n None z.number (not_open j z is)) (all_gone_none h.owner n h.runs h.gone) (owner_at h.owner n None) placed refl (omega arith)
-        shuts tt refl
+        (λ j z is. owner_other h.owner n None z.number (not_open j z is)) (all_gone_none h.owner n h.runs h.gone) (owner_at h.owner n None) placed refl refl (omega arith)
+        shuts tt tt (among_second (Joined came.caller (outcome.Entered n)) (Removed n) h.steps) refl
 
     -- or because its link could not be watched
     pub turned_unwatched : (k2 : Knows) (w1 w' : WaitState) (places' : List (Option SessionState)) (b : Bool) → Adds (event.Remove n) outcome.Done k1 k2
         → HasPlace places places' → Rose w.faults w1.faults → w.faults ≤ w1.faults → w1 ≡ record w { faults = w1.faults } → ShutBy w1 w' b came
-        → Holds told old (loop_state k2 (record d { links = next_count d.links }) w' places' (joined + 1) starved is_over b)
+        → Holds told terms old (loop_state k2 (record d { links = next_count d.links }) w' places' (joined + 1) starved is_over b)
     turned_unwatched k2 w1 w' places' b removed placed rose later same shuts =
         let more : List Step = Joined came.caller (outcome.Entered n) ∷ Removed n ∷ [] in
         let before : old.wait.faults ≤ w.faults = h.wait_later in
         let f = shut_faults w1 w' b came shuts in
         let cause : Rose old.wait.faults w'.faults = omega (arith, rose, before, f) in
-        subst (λ (m : ℕ). Holds told old (loop_state k2 (record d { links = next_count d.links }) w' places' (joined + 1) m is_over b)) (none starved)
+        subst (λ (m : ℕ). Holds told terms old (loop_state k2 (record d { links = next_count d.links }) w' places' (joined + 1) m is_over b)) (none starved)
         (turned_away k2 w1 w' places' b (Unwatched n) more (reassign h.owner n None) (removed_gains k2 removed) (tt, (tt, tt)) refl (λ m. (refl, refl))
         (record { is_new = newly; joined = among_behind (Joined came.caller (outcome.Entered n)) h.steps (Removed n ∷ []); fate = unserved more (λ m. (refl, refl)) })
         (λ j z is. owner_other h.owner n None z.number (not_open j z is)) (all_gone_none h.owner n h.runs h.gone) (owner_at h.owner n None) placed
-        (ap (λ (x : WaitState). x.shut) same) later shuts cause refl)
+        (ap (λ (x : WaitState). x.shut) same) (ap (λ (x : WaitState). x.over) same) later shuts cause tt
+        (among_second (Joined came.caller (outcome.Entered n)) (Removed n) h.steps) refl)
       where
         none : (m : ℕ) → m + 0 ≡ m
         none m = omega arith
@@ -232,6 +241,16 @@ module _ (told : Option ℕ) (old : Around) (d : DoorState) (w : WaitState) (k :
           let there = placed_less places mid placed j z e.1 in
           open_on told h.steps step h.owner owner_now j z (spared z.number) (owner_other h.owner n (Some i) z.number (not_open j z there)) (h.open_are j z there)
 
+      abbrev early_cause : SessionState → Type 0
+      early_cause z = EndCause (MayEnd terms w.over) (end_of_asking z.asking) z.taking
+
+      early_first : early_cause (opened came n)
+      early_first = (λ e. absurd (cc), λ e. absurd (cc))
+
+      early_all : (j : ℕ) (z : SessionState) → ((j ≡ i) × (x ≡ z)) ⊎ ((j ≡ i → ⊥) × (slice_get mid j ≡ Some (Some z))) → early_cause z
+      early_all j z (inl e) = subst (λ (y : SessionState). early_cause y) (sym is ∙ e.1) early_first
+      early_all j z (inr e) = h.early_open j z (placed_less places mid placed j z e.1)
+
       caller_same : x.line.caller ≡ came.caller
       caller_same = ap (λ (y : SessionState). y.line.caller) is
 
@@ -258,8 +277,8 @@ module _ (told : Option ℕ) (old : Around) (d : DoorState) (w : WaitState) (k :
       runs_other [] are gone = tt
       runs_other (run ∷ runs) are gone = (run_other run are.0 gone.0, runs_other runs are.1 gone.1)
 
-      pub seated : Holds told old (loop_state k1 (record d { links = next_count d.links }) w' (slice_set mid i (Some x)) (joined + 1) starved is_over true)
-      seated = subst (λ (v : WaitState). Holds told old (loop_state k1 (record d { links = next_count d.links }) v (slice_set mid i (Some x)) (joined + 1) starved is_over true)) (sym same)
+      pub seated : Holds told terms old (loop_state k1 (record d { links = next_count d.links }) w' (slice_set mid i (Some x)) (joined + 1) starved is_over true)
+      seated = subst (λ (v : WaitState). Holds told terms old (loop_state k1 (record d { links = next_count d.links }) v (slice_set mid i (Some x)) (joined + 1) starved is_over true)) (sym same)
           (record {
             steps = h.steps ++ step;
             gains = gains_steps old.knows k k1 h.steps step h.gains (gains_one k k1 (event.Enter, outcome.Entered n) (made event.Enter (outcome.Entered n) k k1 adds));
@@ -276,7 +295,10 @@ module _ (told : Option ℕ) (old : Around) (d : DoorState) (w : WaitState) (k :
             shut = h.shut;
             starved_are = h.starved_are;
             unwatched = h.unwatched;
+            early = h.early;
+            early_open = λ j z there. early_all j z (set_some mid i j x z there);
             through = h.through;
+            removed = λ g. removed_on h.steps step h.runs (h.removed g);
             addr = h.addr;
             door_ends = h.door_ends;
             over_cause = h.over_cause;

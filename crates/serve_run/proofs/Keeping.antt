@@ -1,29 +1,28 @@
 -- What the steps of a loop keep of its record.
-use Rattle.std.proofs.Common.{◌≡◌, ◌⊎◌, ◌≤◌, ◌<◌, ◌+◌, ◌==◌, ℕ, Bool, true, false, List, [], ◌∷◌, ◌++◌, refl, sym, ap, ◌∙◌, subst, inl, inr, ⊎_elim, arith}
-use Rattle.std.specs.Prelude.{Option, Some, None, slice_set, option_map}
+use Rattle.std.proofs.Common.{◌≡◌, ◌⊎◌, ◌+◌, ◌==◌, ℕ, Bool, false, List, [], ◌∷◌, ◌++◌, refl, sym, ap, ◌∙◌, subst, inl, inr, arith}
+use Rattle.std.specs.Prelude.{Option, Some, None, slice_set}
 use Rattle.std.specs.List.{slice_get}
 use Rattle.std.proofs.lemmas.List.{append-nil}
-use Rattle.outside.specs.Causes.{Rose}
 use Rattle.world_model.specs.declared.events.Outcome.{Outcome}
 use Rattle.world_model.specs.declared.events.Outcome.TheVariants as outcome
 use Rattle.world_model.specs.Seats.{Knows, Act}
-use Rattle.ready_links.specs.Links.{LinkState, IsNew}
-use Rattle.ready_links.specs.Doors.{DoorState}
-use Rattle.ready_links.specs.Waits.{WaitState}
+use Rattle.outside.specs.Doors.{DoorState}
+use Rattle.outside.specs.Waits.{WaitState}
 use Rattle.session_run.specs.Calls.{Call}
 use Rattle.session_run.specs.Gains.{Gains}
-use Rattle.session_run.specs.Sessions.{SessionState}
+use Rattle.session_run.specs.Sessions.{SessionState, end_of_asking}
 use Rattle.session_run.specs.SoFar.{AskedSoFar, WrittenSoFar}
-use Rattle.serve_run.specs.Steps.{Step, Tended, Joined, steps_acts, calls_of, takes_of, callers_of, AreTimely, IsAmong}
-use Rattle.serve_run.specs.Runs.{LinkRun, one_if, times, times_shut}
+use Rattle.serve_run.specs.Steps.{Step, Tended, Shrunk, Unshrunk, Joined, step_acts, calls_of, takes_of, callers_of, IsTimely, IsAmong}
+use Rattle.serve_run.specs.Runs.{MayEnd, EndCause, one_if, times, times_shut}
 use Rattle.serve_run.specs.declared.tends.ServeEnd.{ServeEnd}
-use Rattle.serve_run.specs.Links.{IsTold, Tends, tend_acts}
-use Rattle.serve_run.specs.LoopEnds.{TendsTable}
+use Rattle.serve_run.specs.Tends.{Tends, TendsOn, Shrinks, ShrinksOn}
+use Rattle.serve_run.specs.LoopEnds.{TendsTable, KeepsAside}
+use Rattle.serve_run.specs.declared.terms.Terms.{Terms}
 use Rattle.serve_run.specs.Loops.{Around}
-use Rattle.serve_run.specs.SessionSteps.{StepsSession}
-use Rattle.serve_run.specs.LoopStates.{LoopState, loop_state, IsOpen, Holds, Keeps, KeepsTable, KeepsShut, NeverJoined, time_at, times_open}
+use Rattle.serve_run.specs.SessionSteps.{StepsSession, StepsOn, EndsEarly}
+use Rattle.serve_run.specs.LoopStates.{LoopState, loop_state, IsOpen, Holds, Keeps, KeepsTable, KeepsEarly, NeverJoined, time_at, times_open}
 use Rattle.serve_run.proofs.Places.{set_some, times_set, less_last, times_last}
-use Rattle.serve_run.proofs.Records.{Spares, spared_calls, spared_takes, others_spared, own_callers, callers_more, among_more, never_before, joined_other, open_on, runs_on}
+use Rattle.serve_run.proofs.Records.{Spares, spared_calls, spared_takes, others_spared, own_callers, callers_more, among_more, never_before, joined_other, open_on, runs_on, removed_on, among_later}
 use Rattle.serve_run.proofs.Stepping.{timely_more, calls_more, takes_more, gains_steps}
 
 pub other_place : (owner : ℕ → Option ℕ) (n m i j : ℕ) → owner n ≡ Some i → owner m ≡ Some j → (j ≡ i → ⊥) → n ≡ m → ⊥
@@ -40,8 +39,13 @@ no_callers steps more callers none is = callers_more steps more ∙ ap (λ (l : 
 
 -- ---- a session of the table goes on
 
-module _ (told : Option ℕ) (old : Around) (s : LoopState) (h : Holds told old s) (i : ℕ) (x y : SessionState) (k : Knows)
-    (there : slice_get s.places i ≡ Some (Some x)) (st : StepsSession told s.around.knows k x y) where
+either : {P Q C : Type 0} → P ⊎ Q → (P → C) → (Q → C) → C
+either (inl p) f g = f p
+either (inr q) f g = g q
+
+module _ (told : Option ℕ) (terms : Terms) (old : Around) (s : LoopState) (h : Holds told terms old s) (i : ℕ) (x y : SessionState) (k : Knows)
+    (there : slice_get s.places i ≡ Some (Some x)) (early : Type 0) (may : early → MayEnd terms s.around.wait.over)
+    (st : StepsSession told early s.around.knows k x y) where
   before : IsOpen told h.steps h.owner i x
   before = h.open_are i x there
 
@@ -69,6 +73,16 @@ module _ (told : Option ℕ) (old : Around) (s : LoopState) (h : Holds told old 
       let o = h.open_are j z e.1 in
       open_on told h.steps st.steps h.owner h.owner j z (spares z.number (other_place h.owner x.number z.number i j before.owned o.owned e.0)) refl o
 
+  abbrev cause : SessionState → Type 0
+  cause z = EndCause (MayEnd terms s.around.wait.over) (end_of_asking z.asking) z.taking
+
+  early_now : cause y
+  early_now = let b = h.early_open i x there in (λ e. either (st.ends.0 e) b.0 may, λ e. either (st.ends.1 e) b.1 may)
+
+  early_others : (j : ℕ) (z : SessionState) → ((j ≡ i) × (y ≡ z)) ⊎ ((j ≡ i → ⊥) × (slice_get s.places j ≡ Some (Some z))) → cause z
+  early_others j z (inl e) = subst (λ (w : SessionState). cause w) e.1 early_now
+  early_others j z (inr e) = h.early_open j z e.1
+
   unused_on : (n : ℕ) → NeverJoined n (h.steps ++ st.steps) → (calls_of n (h.steps ++ st.steps) ≡ []) × (takes_of n (h.steps ++ st.steps) ≡ [])
   unused_on n never =
       let u = h.unused n (never_before n h.steps st.steps never) in
@@ -81,7 +95,7 @@ module _ (told : Option ℕ) (old : Around) (s : LoopState) (h : Holds told old 
       let e : time_at c (Some y) ≡ time_at c (Some x) = ap (λ (n : ℕ). one_if (n == c)) st.caller in
       omega (arith, t, e)
 
-  pub session_on : Holds told old (record s { around = record s.around { knows = k }; places = slice_set s.places i (Some y) })
+  pub session_on : Holds told terms old (record s { around = record s.around { knows = k }; places = slice_set s.places i (Some y) })
   session_on = record {
     steps = h.steps ++ st.steps;
     gains = gains_steps old.knows s.around.knows k h.steps st.steps h.gains st.gains;
@@ -98,7 +112,10 @@ module _ (told : Option ℕ) (old : Around) (s : LoopState) (h : Holds told old 
     shut = h.shut;
     starved_are = h.starved_are;
     unwatched = h.unwatched;
+    early = h.early;
+    early_open = λ j z is. early_others j z (set_some s.places i j y z is);
     through = h.through;
+    removed = λ g. removed_on h.steps st.steps h.runs (h.removed g);
     addr = h.addr;
     door_ends = h.door_ends;
     over_cause = h.over_cause;
@@ -106,57 +123,99 @@ module _ (told : Option ℕ) (old : Around) (s : LoopState) (h : Holds told old 
     wait_later = h.wait_later;
   }
 
-pub table_none : (told : Option ℕ) (k : Knows) (places : List (Option SessionState)) → KeepsTable told k k places places
-table_none told k places = λ d w joined starved is_over goes_on old h. h
+  -- the session's steps are among all of them
+  pub session_with : (z : Step) → IsAmong z st.steps
+      → (h' : Holds told terms old (record s { around = record s.around { knows = k }; places = slice_set s.places i (Some y) })) × IsAmong z h'.steps
+  unfolding session_on
+  session_with z a = (session_on, among_later z h.steps st.steps a)
 
-pub table_more : (told : Option ℕ) (k1 k2 k3 : Knows) (a b c : List (Option SessionState)) → KeepsTable told k1 k2 a b → KeepsTable told k2 k3 b c → KeepsTable told k1 k3 a c
-table_more told k1 k2 k3 a b c p q = λ d w joined starved is_over goes_on old h. q d w joined starved is_over goes_on old (p d w joined starved is_over goes_on old h)
+pub table_none : (told : Option ℕ) (terms : Terms) (k : Knows) (places : List (Option SessionState)) → KeepsTable told terms k k places places
+table_none told terms k places = λ d w joined starved is_over goes_on old h. h
 
-pub table_step : (told : Option ℕ) (k k' : Knows) (places : List (Option SessionState)) (i : ℕ) (x y : SessionState) → slice_get places i ≡ Some (Some x)
-    → StepsSession told k k' x y → KeepsTable told k k' places (slice_set places i (Some y))
-table_step told k k' places i x y there st = λ d w joined starved is_over goes_on old h.
-    session_on told old (loop_state k d w places joined starved is_over goes_on) h i x y k' there st
+pub table_more : (told : Option ℕ) (terms : Terms) (k1 k2 k3 : Knows) (a b c : List (Option SessionState)) → KeepsTable told terms k1 k2 a b
+    → KeepsTable told terms k2 k3 b c → KeepsTable told terms k1 k3 a c
+table_more told terms k1 k2 k3 a b c p q = λ d w joined starved is_over goes_on old h.
+    q d w joined starved is_over goes_on old (p d w joined starved is_over goes_on old h)
 
--- ---- a Tick and the Rewrites behind it
+pub table_step : (told : Option ℕ) (terms : Terms) (k k' : Knows) (places : List (Option SessionState)) (i : ℕ) (x y : SessionState)
+    → slice_get places i ≡ Some (Some x) → StepsOn told k k' x y → KeepsTable told terms k k' places (slice_set places i (Some y))
+table_step told terms k k' places i x y there st = λ d w joined starved is_over goes_on old h.
+    session_on told terms old (loop_state k d w places joined starved is_over goes_on) h i x y k' there ⊥ (λ e. absurd e) st
 
-pub table_tended : (told : Option ℕ) (k k' : Knows) (m : ℕ) → IsTold told m → Gains k k' (tend_acts m) → (places : List (Option SessionState)) → KeepsTable told k k' places places
-table_tended told k k' m timely gains places = λ d w joined starved is_over goes_on old h.
-    let more : List Step = Tended m ∷ [] in
-    let spares : (n : ℕ) → Spares more n = λ n. (refl, refl) in
-    record {
-      steps = h.steps ++ more;
-      gains = gains_steps old.knows k k' h.steps more h.gains (subst (λ (l : List Act). Gains k k' l) (sym (append-nil (tend_acts m))) gains);
-      timely = timely_more told h.steps more h.timely (timely, tt);
-      callers = no_callers h.steps more _ refl h.callers;
-      door_links = h.door_links;
-      unused = λ n never.
-          let u = h.unused n (never_before n h.steps more never) in
-          (spared_calls h.steps more n (spares n) ∙ u.0, spared_takes h.steps more n (spares n) ∙ u.1);
-      owner = h.owner;
-      open_are = λ j z is. open_on told h.steps more h.owner h.owner j z (spares z.number) refl (h.open_are j z is);
-      runs = h.runs;
-      are = runs_on told h.steps more h.owner (λ n none. spares n) h.runs h.gone h.are;
-      gone = h.gone;
-      once = λ c. h.once c ∙ ap (times c) (sym (no_callers h.steps more (callers_of h.steps) refl refl));
-      shut = h.shut;
-      starved_are = h.starved_are;
-      unwatched = h.unwatched;
-      through = h.through;
-      addr = h.addr;
-      door_ends = h.door_ends;
-      over_cause = h.over_cause;
-      door_later = h.door_later;
-      wait_later = h.wait_later;
-    }
+-- ---- a session is ended by the server
 
-pub tended_table : (told : Option ℕ) (k k' : Knows) (o : Option ServeEnd) → Tends told k k' o → TendsTable told k k' o
-tended_table told k k' None t = λ places. table_tended told k k' t.moment t.is_told t.gains places
-tended_table told k k' (Some e) t = t
+pub early_none : (told : Option ℕ) (terms : Terms) (k : Knows) (w : WaitState) (places : List (Option SessionState)) → KeepsEarly told terms k w places places
+early_none told terms k w places = λ d joined starved is_over goes_on old h. h
+
+pub early_step : (told : Option ℕ) (terms : Terms) (k : Knows) (w : WaitState) (places : List (Option SessionState)) (i : ℕ) (x y : SessionState)
+    → MayEnd terms w.over → slice_get places i ≡ Some (Some x) → EndsEarly told k x y → KeepsEarly told terms k w places (slice_set places i (Some y))
+early_step told terms k w places i x y may there st = λ d joined starved is_over goes_on old h.
+    session_on told terms old (loop_state k d w places joined starved is_over goes_on) h i x y k there (Unit {0}) (λ e. may) st
+
+-- ---- entries of the seat's own, for no session of the table
+
+module _ (told : Option ℕ) (terms : Terms) (k k' : Knows) (step : Step) (timely : IsTimely told step) (spares : (n : ℕ) → Spares (step ∷ []) n)
+    (nobody : callers_of (step ∷ []) ≡ []) (gains : Gains k k' (step_acts step)) where
+  pub table_aside : KeepsAside told terms k k'
+  table_aside = λ places d w joined starved is_over goes_on old h.
+      let more : List Step = step ∷ [] in
+      record {
+        steps = h.steps ++ more;
+        gains = gains_steps old.knows k k' h.steps more h.gains (subst (λ (l : List Act). Gains k k' l) (sym (append-nil (step_acts step))) gains);
+        timely = timely_more told h.steps more h.timely (timely, tt);
+        callers = no_callers h.steps more _ nobody h.callers;
+        door_links = h.door_links;
+        unused = λ n never.
+            let u = h.unused n (never_before n h.steps more never) in
+            (spared_calls h.steps more n (spares n) ∙ u.0, spared_takes h.steps more n (spares n) ∙ u.1);
+        owner = h.owner;
+        open_are = λ j z is. open_on told h.steps more h.owner h.owner j z (spares z.number) refl (h.open_are j z is);
+        runs = h.runs;
+        are = runs_on told h.steps more h.owner (λ n none. spares n) h.runs h.gone h.are;
+        gone = h.gone;
+        once = λ c. h.once c ∙ ap (times c) (sym (no_callers h.steps more (callers_of h.steps) nobody refl));
+        shut = h.shut;
+        starved_are = h.starved_are;
+        unwatched = h.unwatched;
+        early = h.early;
+        early_open = h.early_open;
+        through = h.through;
+        removed = λ g. removed_on h.steps more h.runs (h.removed g);
+        addr = h.addr;
+        door_ends = h.door_ends;
+        over_cause = h.over_cause;
+        door_later = h.door_later;
+        wait_later = h.wait_later;
+      }
+
+pub aside_none : (told : Option ℕ) (terms : Terms) (k : Knows) → KeepsAside told terms k k
+aside_none told terms k = λ places. table_none told terms k places
+
+aside_more : (told : Option ℕ) (terms : Terms) (k1 k2 k3 : Knows) → KeepsAside told terms k1 k2 → KeepsAside told terms k2 k3 → KeepsAside told terms k1 k3
+aside_more told terms k1 k2 k3 p q = λ places. table_more told terms k1 k2 k3 places places places (p places) (q places)
+
+aside_tended : (told : Option ℕ) (terms : Terms) (k k' : Knows) → TendsOn told k k' → KeepsAside told terms k k'
+aside_tended told terms k k' t = table_aside told terms k k' (Tended t.moment t.count) (t.is_told, t.few) (λ n. (refl, refl)) refl t.gains
+
+aside_shrunk : (told : Option ℕ) (terms : Terms) (k k' : Knows) → ShrinksOn told k k' → KeepsAside told terms k k'
+aside_shrunk told terms k k' (inl same) = subst (λ (x : Knows). KeepsAside told terms k x) (sym same) (aside_none told terms k)
+aside_shrunk told terms k k' (inr (inl s)) = table_aside told terms k k' (Unshrunk s.0) tt (λ n. (refl, refl)) refl s.1
+aside_shrunk told terms k k' (inr (inr s)) = table_aside told terms k k' (Shrunk s.0 s.1 s.2) s.3 (λ n. (refl, refl)) refl s.4
+
+pub tended_table : (told : Option ℕ) (terms : Terms) (k k' : Knows) (o : Option ServeEnd) → Tends told k k' o → TendsTable told terms k k' o
+tended_table told terms k k' None t = aside_tended told terms k k' t
+tended_table told terms k k' (Some e) t = (k, aside_none told terms k, t)
+
+-- behind a Tick that brought no end it was asked that the log be rewritten
+pub shrunk_table : (told : Option ℕ) (terms : Terms) (k mid k' : Knows) (o : Option ServeEnd) → Tends told k mid None → Shrinks told mid k' o
+    → TendsTable told terms k k' o
+shrunk_table told terms k mid k' None t s = aside_more told terms k mid k' (aside_tended told terms k mid t) (aside_shrunk told terms mid k' s)
+shrunk_table told terms k mid k' (Some e) t s = (mid, aside_tended told terms k mid t, s)
 
 -- the loop ends
-pub goes_off : (told : Option ℕ) (k : Knows) (d : DoorState) (w : WaitState) (places : List (Option SessionState)) (joined starved : ℕ) (is_over goes : Bool)
-    → Keeps told (loop_state k d w places joined starved is_over goes) (loop_state k d w places joined starved is_over false)
-goes_off told k d w places joined starved is_over goes = λ old h. record {
+pub goes_off : (told : Option ℕ) (terms : Terms) (k : Knows) (d : DoorState) (w : WaitState) (places : List (Option SessionState)) (joined starved : ℕ) (is_over goes : Bool)
+    → Keeps told terms (loop_state k d w places joined starved is_over goes) (loop_state k d w places joined starved is_over false)
+goes_off told terms k d w places joined starved is_over goes = λ old h. record {
   steps = h.steps;
   gains = h.gains;
   timely = h.timely;
@@ -172,7 +231,10 @@ goes_off told k d w places joined starved is_over goes = λ old h. record {
   shut = h.shut;
   starved_are = h.starved_are;
   unwatched = h.unwatched;
+  early = h.early;
+  early_open = h.early_open;
   through = λ is. absurd (cc);
+  removed = λ is. absurd (cc);
   addr = h.addr;
   door_ends = h.door_ends;
   over_cause = h.over_cause;
@@ -181,9 +243,9 @@ goes_off told k d w places joined starved is_over goes = λ old h. record {
 }
 
 -- a place with nobody goes
-pub pop_none : (told : Option ℕ) (k : Knows) (d : DoorState) (w : WaitState) (places : List (Option SessionState)) (joined starved : ℕ) (is_over goes : Bool)
-    → Keeps told (loop_state k d w (places ++ None ∷ []) joined starved is_over goes) (loop_state k d w places joined starved is_over false)
-pop_none told k d w places joined starved is_over goes = λ old h. record {
+pub pop_none : (told : Option ℕ) (terms : Terms) (k : Knows) (d : DoorState) (w : WaitState) (places : List (Option SessionState)) (joined starved : ℕ) (is_over goes : Bool)
+    → Keeps told terms (loop_state k d w (places ++ None ∷ []) joined starved is_over goes) (loop_state k d w places joined starved is_over false)
+pop_none told terms k d w places joined starved is_over goes = λ old h. record {
   steps = h.steps;
   gains = h.gains;
   timely = h.timely;
@@ -199,7 +261,10 @@ pop_none told k d w places joined starved is_over goes = λ old h. record {
   shut = h.shut;
   starved_are = h.starved_are;
   unwatched = h.unwatched;
+  early = h.early;
+  early_open = λ j z is. h.early_open j z (less_last places None j z is);
   through = λ is. absurd (cc);
+  removed = λ is. absurd (cc);
   addr = h.addr;
   door_ends = h.door_ends;
   over_cause = h.over_cause;

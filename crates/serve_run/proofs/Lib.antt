@@ -9,3 +9,6 @@ mod Numbers
 mod Joining
 mod Looping
 mod Tending
+mod OptionLaws
+mod ServeApp
+mod Shrinking

@@ -1,13 +1,12 @@
 -- A number that the hall gives out was never given to a session of the loop.
 use Rattle.std.proofs.Common.{◌≡◌, ◌⊎◌, ℕ, false, List, [], ◌∷◌, ◌++◌, refl, sym, ap, ◌∙◌, subst, inl, inr}
-use Rattle.std.specs.Prelude.{Some}
 use Rattle.world_model.specs.Histories.{Reaches}
 use Rattle.world_model.specs.Seats.{Knows, Act, Adds}
 use Rattle.world_model.specs.declared.events.Entry.{Entry}
 use Rattle.world_model.specs.declared.events.Event.TheVariants as event
 use Rattle.world_model.specs.declared.events.Outcome.TheVariants as outcome
 use Rattle.session_run.specs.Gains.{Gains, Makes, made}
-use Rattle.serve_run.specs.Steps.{Step, Joined, step_acts, steps_acts, IsAmong}
+use Rattle.serve_run.specs.Steps.{Step, Joined, steps_acts, IsAmong}
 use Rattle.serve_run.specs.LoopStates.{NeverJoined}
 use Rattle.serve_run.proofs.Drawn.{HasAct, has_more, has_last, given_once}
 use Rattle.serve_run.proofs.Stepping.{acts_more}

@@ -1,9 +1,8 @@
 -- The places of a loop's table.
-use Rattle.std.proofs.Common.{◌≡◌, ◌⊎◌, ◌<◌, ◌+◌, ◌==◌, ℕ, zero, suc, List, [], ◌∷◌, ◌++◌, refl, sym, ap, ◌∙◌, subst, inl, inr, arith}
+use Rattle.std.proofs.Common.{◌≡◌, ◌⊎◌, ◌<◌, ◌+◌, ℕ, zero, suc, List, [], ◌∷◌, ◌++◌, refl, ap, inl, inr, arith}
 use Rattle.std.specs.Prelude.{Option, Some, None, slice_set, length}
 use Rattle.std.specs.List.{slice_get}
 use Rattle.session_run.specs.Sessions.{SessionState}
-use Rattle.serve_run.specs.Runs.{one_if}
 use Rattle.serve_run.specs.LoopStates.{time_at, times_open, NoneOpen}
 
 abbrev Places : Type 0

@@ -1,5 +1,5 @@
 -- What further steps leave of a session's records, and one run more.
-use Rattle.std.proofs.Common.{◌≡◌, ◌⊎◌, ◌<◌, ◌+◌, ◌==◌, ℕ, zero, suc, Bool, true, false, List, [], ◌∷◌, ◌++◌, refl, sym, ap, ◌∙◌, subst, inl, inr, arith, append_assoc}
+use Rattle.std.proofs.Common.{◌≡◌, ◌+◌, ◌==◌, ℕ, zero, suc, Bool, true, false, List, [], ◌∷◌, ◌++◌, refl, sym, ap, ◌∙◌, subst, inl, inr, arith, append_assoc}
 use Rattle.std.specs.Prelude.{Option, Some, None, option_map, if◌then◌else◌}
 use Rattle.std.proofs.lemmas.Bool.{ne_eqb}
 use Rattle.std.proofs.lemmas.List.{append-nil}
@@ -7,14 +7,17 @@ use Rattle.std.proofs.lemmas.Grind.{flat_map-append}
 use Rattle.outside.specs.Causes.{next_count}
 use Rattle.world_model.specs.declared.events.Outcome.{Outcome}
 use Rattle.world_model.specs.declared.events.Outcome.TheVariants as outcome
-use Rattle.ready_links.specs.Links.{LinkState}
+use Rattle.outside.specs.Links.{LinkState}
 use Rattle.session_run.specs.Calls.{Call}
 use Rattle.session_run.specs.Outs.{bytes_given}
 use Rattle.session_run.specs.Sessions.{SessionState}
 use Rattle.session_run.specs.SoFar.{AskedSoFar, WrittenSoFar}
 use Rattle.session_run.specs.Turns.{turn_calls}
-use Rattle.serve_run.specs.Steps.{Step, Tended, Joined, Called, Took, Closed, Removed, calls_in, calls_of, takes_in, takes_of, caller_in, callers_of, numbered, behind_callers, IsAmong}
-use Rattle.serve_run.specs.Runs.{LinkRun, LinkFate, TurnedOut, Starved, Unwatched, Served, IsServed, IsUnserved, HasFate, Wrote, IsRun, AreRuns, AreThrough, WatchFault, WatchFaults, is_through, one_if, times, times_shut, told_of, told_links, starved_in, starved_of}
+use Rattle.serve_run.specs.Steps.{Step, Tended, Shrunk, Unshrunk, Joined, Called, Took, Closed, Removed, calls_of, takes_of, caller_in, callers_of, numbered, behind_callers, IsAmong}
+use Rattle.serve_run.specs.Runs.{LinkRun, LinkFate, TurnedOut, Starved, Unwatched, Served, IsUnserved, HasFate, Wrote, IsRun, AreRuns, AreThrough, WatchFault, WatchFaults, MayEnd, EndCause, FateCause, FateCauses, IsRemoved, AreRemoved, is_through, one_if, times, times_shut, told_of, told_links, starved_in, starved_of}
+use Rattle.serve_run.specs.declared.terms.Terms.{Terms}
+use Rattle.session_run.specs.declared.ends.InEnd.{InEnd}
+use Rattle.session_run.specs.declared.phases.TakeEnd.{TakeEnd}
 use Rattle.serve_run.specs.SessionSteps.{AreOf}
 use Rattle.serve_run.specs.LoopStates.{IsOpen, IsGone, AreGone, NeverJoined}
 use Rattle.serve_run.proofs.Stepping.{calls_more, takes_more}
@@ -36,7 +39,9 @@ not_if false xs is = refl
 -- steps of another session spare this one
 other_calls : (n m : ℕ) → (n ≡ m → ⊥) → (steps : List Step) → AreOf n steps → calls_of m steps ≡ []
 other_calls n m other [] own = refl
-other_calls n m other (Tended t ∷ steps) own = absurd own.0
+other_calls n m other (Tended t count ∷ steps) own = absurd own.0
+other_calls n m other (Shrunk k t c ∷ steps) own = absurd own.0
+other_calls n m other (Unshrunk o ∷ steps) own = absurd own.0
 other_calls n m other (Joined caller o ∷ steps) own = absurd own.0
 other_calls n m other (Called k t asked served end ∷ steps) own =
     ap (λ (l : List Call). l ++ calls_of m steps) (not_if (k == m) (turn_calls t asked served end) (ne_eqb k m (λ e. other (sym own.0 ∙ e))))
@@ -47,7 +52,9 @@ other_calls n m other (Removed k ∷ steps) own = other_calls n m other steps ow
 
 other_takes : (n m : ℕ) → (n ≡ m → ⊥) → (steps : List Step) → AreOf n steps → takes_of m steps ≡ []
 other_takes n m other [] own = refl
-other_takes n m other (Tended t ∷ steps) own = absurd own.0
+other_takes n m other (Tended t count ∷ steps) own = absurd own.0
+other_takes n m other (Shrunk k t c ∷ steps) own = absurd own.0
+other_takes n m other (Unshrunk o ∷ steps) own = absurd own.0
 other_takes n m other (Joined caller o ∷ steps) own = absurd own.0
 other_takes n m other (Called k t asked served end ∷ steps) own = other_takes n m other steps own.1
 other_takes n m other (Took k o ∷ steps) own =
@@ -61,7 +68,9 @@ others_spared n m other steps own = (other_calls n m other steps own, other_take
 
 pub own_callers : (n : ℕ) (steps : List Step) → AreOf n steps → callers_of steps ≡ []
 own_callers n [] own = refl
-own_callers n (Tended t ∷ steps) own = absurd own.0
+own_callers n (Tended t count ∷ steps) own = absurd own.0
+own_callers n (Shrunk k t c ∷ steps) own = absurd own.0
+own_callers n (Unshrunk o ∷ steps) own = absurd own.0
 own_callers n (Joined caller o ∷ steps) own = absurd own.0
 own_callers n (Called k t asked served end ∷ steps) own = own_callers n steps own.1
 own_callers n (Took k o ∷ steps) own = own_callers n steps own.1
@@ -152,6 +161,32 @@ runs_on told steps more owner spares (run ∷ runs) gone are = (
   runs_on told steps more owner spares runs gone.1 are.1,
 )
 
+removed_fate : (steps more : List Step) (fate : LinkFate) → IsRemoved steps fate → IsRemoved (steps ++ more) fate
+removed_fate steps more (TurnedOut o) r = tt
+removed_fate steps more (Starved n) r = among_more (Removed n) steps more r
+removed_fate steps more (Unwatched n) r = among_more (Removed n) steps more r
+removed_fate steps more (Served n asking taking) r = among_more (Removed n) steps more r
+
+pub removed_on : (steps more : List Step) (runs : List LinkRun) → AreRemoved steps runs → AreRemoved (steps ++ more) runs
+removed_on steps more [] r = tt
+removed_on steps more (run ∷ runs) r = (removed_fate steps more run.fate r.0, removed_on steps more runs r.1)
+
+pub removed_push : (steps : List Step) (runs : List LinkRun) (run : LinkRun) → AreRemoved steps runs → IsRemoved steps run.fate
+    → AreRemoved steps (runs ++ run ∷ [])
+removed_push steps [] run r is = (is, tt)
+removed_push steps (x ∷ runs) run r is = (r.0, removed_push steps runs run r.1 is)
+
+-- the second of two steps behind others is among all
+pub among_second : (x y : Step) (steps : List Step) → IsAmong y (steps ++ x ∷ y ∷ [])
+among_second x y steps = (steps ++ x ∷ [], [], sym (append_assoc steps (x ∷ []) (y ∷ [])))
+
+pub among_later : (x : Step) (steps more : List Step) → IsAmong x more → IsAmong x (steps ++ more)
+among_later x steps more a = (
+  steps ++ a.0,
+  a.1,
+  ap (λ (l : List Step). steps ++ l) a.2 ∙ sym (append_assoc steps a.0 (x ∷ a.1)),
+)
+
 -- ---- one run more
 
 pub runs_push : (told : Option ℕ) (steps : List Step) (runs : List LinkRun) (run : LinkRun) → AreRuns told steps runs → IsRun told steps run → AreRuns told steps (runs ++ run ∷ [])
@@ -187,6 +222,28 @@ faults_on P Q (r ∷ runs) f w = (fault_on P Q r.fate f w.0, faults_on P Q runs 
 pub faults_push : (P : Type 0) (runs : List LinkRun) (run : LinkRun) → WatchFaults P runs → WatchFault P run.fate → WatchFaults P (runs ++ run ∷ [])
 faults_push P [] run w is = (is, tt)
 faults_push P (r ∷ runs) run w is = (w.0, faults_push P runs run w.1 is)
+
+-- where the server ends sessions by itself, that has a cause, also later
+pub cause_on : (P Q : Type 0) (asking : Option InEnd) (taking : Option TakeEnd) → (P → Q) → EndCause P asking taking → EndCause Q asking taking
+cause_on P Q asking taking f c = (λ e. f (c.0 e), λ e. f (c.1 e))
+
+fate_cause_on : (P Q : Type 0) (fate : LinkFate) → (P → Q) → FateCause P fate → FateCause Q fate
+fate_cause_on P Q (Unwatched n) f c = tt
+fate_cause_on P Q (TurnedOut o) f c = tt
+fate_cause_on P Q (Starved n) f c = tt
+fate_cause_on P Q (Served n asking taking) f c = cause_on P Q asking taking f c
+
+pub causes_on : (P Q : Type 0) (runs : List LinkRun) → (P → Q) → FateCauses P runs → FateCauses Q runs
+causes_on P Q [] f c = tt
+causes_on P Q (r ∷ runs) f c = (fate_cause_on P Q r.fate f c.0, causes_on P Q runs f c.1)
+
+pub causes_push : (P : Type 0) (runs : List LinkRun) (run : LinkRun) → FateCauses P runs → FateCause P run.fate → FateCauses P (runs ++ run ∷ [])
+causes_push P [] run c is = (is, tt)
+causes_push P (r ∷ runs) run c is = (c.0, causes_push P runs run c.1 is)
+
+pub may_on : (terms : Terms) (a b : Bool) → (a ≡ true → b ≡ true) → MayEnd terms a → MayEnd terms b
+may_on terms a b f (inl idle) = inl idle
+may_on terms a b f (inr asked) = inr (asked.0, f asked.1)
 
 pub through_push : (runs : List LinkRun) (run : LinkRun) → AreThrough runs → is_through run.fate ≡ true → run.is_told ≡ true → AreThrough (runs ++ run ∷ [])
 through_push [] run all is told = (is, told, tt)

@@ -1,6 +1,6 @@
 -- A session that leaves the table, and its link's run.
-use Rattle.std.proofs.Common.{◌≡◌, ◌≤◌, ◌<◌, ◌+◌, ◌==◌, ℕ, Bool, true, false, List, [], ◌∷◌, ◌++◌, refl, sym, ap, ◌∙◌, subst, arith, inl, inr}
-use Rattle.std.specs.Prelude.{Option, Some, None, IfSome, slice_set, option_map, length}
+use Rattle.std.proofs.Common.{◌≡◌, ◌≤◌, ◌<◌, ◌+◌, ◌==◌, ℕ, Bool, true, false, List, [], ◌∷◌, ◌++◌, refl, sym, ap, subst, arith, inl}
+use Rattle.std.specs.Prelude.{Option, Some, None, slice_set, option_map, length}
 use Rattle.std.specs.List.{slice_get}
 use Rattle.std.specs.Io.KnownBytes.{append_known, Appends}
 use Rattle.std.proofs.lemmas.List.{append-nil}
@@ -12,9 +12,9 @@ use Rattle.world_model.specs.declared.events.Event.TheVariants as event
 use Rattle.world_model.specs.declared.events.Outcome.{Outcome}
 use Rattle.world_model.specs.declared.events.Outcome.TheVariants as outcome
 use Rattle.world_model.specs.Seats.{Knows, Adds}
-use Rattle.ready_links.specs.Links.{LinkState}
-use Rattle.ready_links.specs.Doors.{DoorState}
-use Rattle.ready_links.specs.Waits.{WaitState}
+use Rattle.outside.specs.Links.{LinkState}
+use Rattle.outside.specs.Doors.{DoorState}
+use Rattle.outside.specs.Waits.{WaitState}
 use Rattle.session_run.specs.Calls.{Call, Serves}
 use Rattle.session_run.specs.Gains.{gains_one, made}
 use Rattle.session_run.specs.Outs.{bytes_given}
@@ -25,30 +25,33 @@ use Rattle.session_run.specs.declared.phases.Asking.TheVariants.{Open, Breaking,
 use Rattle.session_run.specs.declared.phases.TakeEnd.{TakeEnd}
 use Rattle.session_run.specs.declared.phases.TakeEnd.TheVariants as took
 use Rattle.session_run.specs.Owing.{owed_all}
-use Rattle.session_run.specs.Sessions.{SessionState, demand, owed, can_write, IsOver, WantsToWrite, end_of_asking}
+use Rattle.session_run.specs.Sessions.{SessionState, demand, owed, can_write, IsOver, end_of_asking}
 use Rattle.session_run.specs.SoFar.{asked_for, Asks, AskedSoFar, Owes, WrittenSoFar}
 use Rattle.session_run.specs.WrittenSteps.{written_part}
-use Rattle.serve_run.specs.Steps.{Step, Removed, calls_of, takes_of, callers_of}
-use Rattle.serve_run.specs.Runs.{LinkRun, Served, AskingEnds, Wrote, IsServed, IsRun, is_through, AreThrough, one_if, times, times_shut, starved_of}
+use Rattle.serve_run.specs.Steps.{Step, Removed, IsAmong, takes_of, callers_of}
+use Rattle.serve_run.specs.Runs.{LinkRun, Served, AskingEnds, Wrote, IsServed, is_through, MayEnd, EndCause, one_if, times, times_shut}
+use Rattle.serve_run.specs.declared.terms.Terms.{Terms}
 use Rattle.serve_run.specs.Loops.{Around}
-use Rattle.serve_run.specs.SessionSteps.{StepsSession}
-use Rattle.serve_run.specs.LoopStates.{LoopState, loop_state, IsOpen, Holds, Keeps, KeepsShut, time_at, times_open}
+use Rattle.serve_run.specs.SessionSteps.{RemovesSession}
+use Rattle.serve_run.specs.LoopStates.{LoopState, loop_state, IsOpen, Holds, Keeps, KeepsShut, times_open}
 use Rattle.serve_run.specs.LoopEnds.{ShutBy}
-use Rattle.serve_run.proofs.Keeping.{session_on, other_place}
+use Rattle.serve_run.proofs.Keeping.{session_with, other_place}
 use Rattle.serve_run.proofs.Owners.{reassign, owner_at, owner_other, all_gone_none, open_owner}
 use Rattle.serve_run.proofs.Places.{set_none, set_again, set_there, times_set, less_last, not_last, at_last, times_last}
-use Rattle.serve_run.proofs.Records.{runs_push, gone_push, shut_times, starved_push, faults_on, faults_push, through_push, shut_on, told_by}
+use Rattle.serve_run.proofs.Records.{runs_push, gone_push, shut_times, starved_push, faults_on, faults_push, cause_on, causes_on, causes_push, removed_push, through_push, shut_on, told_by}
 
 -- ---- what a session was asked and written, in words that name no state of it
 
 -- how its taking ended, where nothing is left to be written or its link failed
 abbrev pub through_by : Option TakeEnd → Bytes → Option TakeEnd
 through_by (Some took.WriteFault) out = Some took.WriteFault
+through_by (Some took.Late) out = Some took.Late
 through_by t [] = t
 through_by t (b ∷ out) = None
 
 through_is : (t : Option TakeEnd) (out : Bytes) (e : TakeEnd) → through_by t out ≡ Some e → t ≡ Some e
 through_is (Some took.WriteFault) out e is = is
+through_is (Some took.Late) out e is = is
 through_is (Some took.Memory) [] e is = is
 through_is (Some took.Ended) [] e is = is
 through_is (Some took.LogFault) [] e is = is
@@ -89,6 +92,7 @@ module _ (told : Option ℕ) (steps : List Step) (owner : ℕ → Option ℕ) (i
 
   wrote_by : (t : Option TakeEnd) (out : Bytes) → x.taking ≡ t → x.out ≡ out → Wrote (through_by t out) o.came.held x.line.held given
   wrote_by (Some took.WriteFault) out is none = part
+  wrote_by (Some took.Late) out is none = part
   wrote_by (Some took.Memory) [] is none = part
   wrote_by (Some took.Memory) (b ∷ out) is none = part
   wrote_by None [] is none = part
@@ -124,6 +128,7 @@ over_through : (n : ℕ) (asking : Option InEnd) (t : Option TakeEnd) (out : Byt
     → is_through (Served n asking (through_by t out)) ≡ true
 over_through n asking None out some none = absurd (some refl)
 over_through n asking (Some took.WriteFault) out some none = refl
+over_through n asking (Some took.Late) out some none = refl
 over_through n asking (Some took.Memory) [] some none = refl
 over_through n asking (Some took.Ended) [] some none = refl
 over_through n asking (Some took.LogFault) [] some none = refl
@@ -147,13 +152,18 @@ pub shut_faults : (w w' : WaitState) (b : Bool) (link : LinkState) → ShutBy w 
 shut_faults w w' true link s = ap (λ (x : WaitState). x.faults) s
 shut_faults w w' false link s = ap (λ (x : WaitState). x.faults) s
 
+pub shut_over_same : (w w' : WaitState) (b : Bool) (link : LinkState) → ShutBy w w' b link → w'.over ≡ w.over
+shut_over_same w w' true link s = ap (λ (x : WaitState). x.over) s
+shut_over_same w w' false link s = ap (λ (x : WaitState). x.over) s
+
 -- ---- a session leaves the table, and its link is shut
 
-module _ (told : Option ℕ) (old : Around) (s : LoopState) (h : Holds told old s) (i : ℕ) (x : SessionState) (there : slice_get s.places i ≡ Some (Some x))
+module _ (told : Option ℕ) (terms : Terms) (old : Around) (s : LoopState) (h : Holds told terms old s) (i : ℕ) (x : SessionState) (there : slice_get s.places i ≡ Some (Some x))
     (w : WaitState) (b : Bool) (places : List (Option SessionState)) (goes : Bool) (shuts : ShutBy s.around.wait w b x.line)
     (less : (j : ℕ) → (z : SessionState) → slice_get places j ≡ Some (Some z) → (j ≡ i → ⊥) × (slice_get s.places j ≡ Some (Some z)))
     (fewer : (c : ℕ) → times_open c places + one_if (x.line.caller == c) ≡ times_open c s.places)
-    (on : goes ≡ true → (s.goes_on ≡ true) × (b ≡ true) × (is_through (Served x.number (end_of_asking x.asking) (through_by x.taking x.out)) ≡ true)) where
+    (on : goes ≡ true → (s.goes_on ≡ true) × (b ≡ true) × (is_through (Served x.number (end_of_asking x.asking) (through_by x.taking x.out)) ≡ true)
+    × IsAmong (Removed x.number) h.steps) where
   leaves : IsOpen told h.steps h.owner i x
   leaves = h.open_are i x there
 
@@ -181,7 +191,13 @@ module _ (told : Option ℕ) (old : Around) (s : LoopState) (h : Holds told old 
   faults : w.faults ≡ s.around.wait.faults
   faults = shut_faults s.around.wait w b x.line shuts
 
-  pub session_off : Holds told old (record s { around = record s.around { wait = w }; places = places; goes_on = goes })
+  may_still : MayEnd terms s.around.wait.over → MayEnd terms w.over
+  may_still m = subst (λ (o : Bool). MayEnd terms o) (sym (shut_over_same s.around.wait w b x.line shuts)) m
+
+  early_run : EndCause (MayEnd terms w.over) (end_of_asking x.asking) (through_by x.taking x.out)
+  early_run = let c = h.early_open i x there in (λ e. may_still (c.0 e), λ e. may_still (c.1 (through_is x.taking x.out took.Late e)))
+
+  pub session_off : Holds told terms old (record s { around = record s.around { wait = w }; places = places; goes_on = goes })
   session_off = record {
     steps = h.steps;
     gains = h.gains;
@@ -204,7 +220,12 @@ module _ (told : Option ℕ) (old : Around) (s : LoopState) (h : Holds told old 
     starved_are = let more = starved_push h.runs run in let was = h.starved_are in omega (arith, more, was);
     unwatched = faults_push (Rose old.wait.faults w.faults) h.runs run
         (faults_on (Rose old.wait.faults s.around.wait.faults) (Rose old.wait.faults w.faults) h.runs (λ r. subst (λ (n : ℕ). Rose old.wait.faults n) (sym faults) r) h.unwatched) tt;
+    early = causes_push (MayEnd terms w.over) h.runs run (causes_on (MayEnd terms s.around.wait.over) (MayEnd terms w.over) h.runs may_still h.early) early_run;
+    early_open = λ j z is.
+        let l = less j z is in
+        cause_on (MayEnd terms s.around.wait.over) (MayEnd terms w.over) (end_of_asking z.asking) z.taking may_still (h.early_open j z l.1);
     through = λ is. let g = on is in through_push h.runs run (h.through g.0) g.2 g.1;
+    removed = λ is. let g = on is in removed_push h.steps h.runs run (h.removed g.0) g.3;
     addr = h.addr;
     door_ends = h.door_ends;
     over_cause = h.over_cause;
@@ -212,45 +233,54 @@ module _ (told : Option ℕ) (old : Around) (s : LoopState) (h : Holds told old 
     wait_later = subst (λ (n : ℕ). old.wait.faults ≤ n) (sym faults) h.wait_later;
   }
 
-pub shut_same : (told : Option ℕ) (k : Knows) (w : WaitState) (places : List (Option SessionState)) → KeepsShut told k k w w places places true
-shut_same told k w places = λ d joined starved is_over old h. h
+pub shut_same : (told : Option ℕ) (terms : Terms) (k : Knows) (w : WaitState) (places : List (Option SessionState)) → KeepsShut told terms k k w w places places true
+shut_same told terms k w places = λ d joined starved is_over old h. h
 
-pub shut_more : (told : Option ℕ) (k1 k2 k3 : Knows) (w1 w2 w3 : WaitState) (a b c : List (Option SessionState)) (is_told : Bool)
-    → KeepsShut told k1 k2 w1 w2 a b true → KeepsShut told k2 k3 w2 w3 b c is_told → KeepsShut told k1 k3 w1 w3 a c is_told
-shut_more told k1 k2 k3 w1 w2 w3 a b c is_told p q = λ d joined starved is_over old h. q d joined starved is_over old (p d joined starved is_over old h)
+pub shut_more : (told : Option ℕ) (terms : Terms) (k1 k2 k3 : Knows) (w1 w2 w3 : WaitState) (a b c : List (Option SessionState)) (is_told : Bool)
+    → KeepsShut told terms k1 k2 w1 w2 a b true → KeepsShut told terms k2 k3 w2 w3 b c is_told → KeepsShut told terms k1 k3 w1 w3 a c is_told
+shut_more told terms k1 k2 k3 w1 w2 w3 a b c is_told p q = λ d joined starved is_over old h. q d joined starved is_over old (p d joined starved is_over old h)
 
--- the session of a place was removed from the hall or not, and its link shut
-pub shut_place : (told : Option ℕ) (k k' : Knows) (w w' : WaitState) (places : List (Option SessionState)) (i : ℕ) (x : SessionState) (b : Bool)
-    → slice_get places i ≡ Some (Some x) → IsOver x → StepsSession told k k' x x → ShutBy w w' b x.line
-    → KeepsShut told k k' w w' places (slice_set places i None) b
-shut_place told k k' w w' places i x b there over st shuts = λ d joined starved is_over old h.
+-- the session of a place was removed from the hall, and its link shut
+pub shut_place : (told : Option ℕ) (terms : Terms) (k k' : Knows) (w w' : WaitState) (places : List (Option SessionState)) (i : ℕ) (x : SessionState) (b : Bool)
+    → slice_get places i ≡ Some (Some x) → IsOver x → RemovesSession told k k' x → ShutBy w w' b x.line
+    → KeepsShut told terms k k' w w' places (slice_set places i None) b
+shut_place told terms k k' w w' places i x b there over st shuts = λ d joined starved is_over old h.
     let s = loop_state k d w places joined starved is_over true in
-    let h' = session_on told old s h i x x k' there st in
+    let on = session_with told terms old s h i x x k' there ⊥ (λ e. absurd e) st.0 (Removed x.number) st.1 in
     let mid = slice_set places i (Some x) in
     let at : slice_get mid i ≡ Some (Some x) = set_there places i (Some x) (Some x) there in
-    subst (λ (l : List (Option SessionState)). Holds told old (loop_state k' d w' l joined starved is_over b)) (set_again places i (Some x) None)
-    (session_off told old (loop_state k' d w mid joined starved is_over true) h' i x at w' b (slice_set mid i None) b shuts
+    subst (λ (l : List (Option SessionState)). Holds told terms old (loop_state k' d w' l joined starved is_over b)) (set_again places i (Some x) None)
+    (session_off told terms old (loop_state k' d w mid joined starved is_over true) on.0 i x at w' b (slice_set mid i None) b shuts
     (λ j z is. set_none mid i j z is)
     (λ c. let t = times_set c mid i (Some x) None at in omega (arith, t))
-    (λ is. (refl, is, over_through x.number (end_of_asking x.asking) x.taking x.out over.0 over.1)))
+    (λ is. (
+      refl,
+      is,
+      over_through x.number (end_of_asking x.asking) x.taking x.out over.0 over.1,
+      on.1,
+    )))
 
 -- the last session of the table leaves it as the loop ends
-pub shut_last : (told : Option ℕ) (k : Knows) (d : DoorState) (w w' : WaitState) (places : List (Option SessionState)) (x : SessionState) (b : Bool) (joined starved : ℕ)
-    (is_over goes : Bool) → ShutBy w w' b x.line → Keeps told (loop_state k d w (places ++ Some x ∷ []) joined starved is_over goes) (loop_state k d w' places joined starved is_over false)
-shut_last told k d w w' places x b joined starved is_over goes shuts = λ old h.
-    session_off told old (loop_state k d w (places ++ Some x ∷ []) joined starved is_over goes) h (length places) x (at_last places (Some x)) w' b places false shuts
+pub shut_last : (told : Option ℕ) (terms : Terms) (k : Knows) (d : DoorState) (w w' : WaitState) (places : List (Option SessionState)) (x : SessionState) (b : Bool) (joined starved : ℕ)
+    (is_over goes : Bool) → ShutBy w w' b x.line → Keeps told terms (loop_state k d w (places ++ Some x ∷ []) joined starved is_over goes) (loop_state k d w' places joined starved is_over false)
+shut_last told terms k d w w' places x b joined starved is_over goes shuts = λ old h.
+    session_off told terms old (loop_state k d w (places ++ Some x ∷ []) joined starved is_over goes) h (length places) x (at_last places (Some x)) w' b places false shuts
     (λ j z is. (λ e. let r = not_last places j z is in absurd (omega (arith, r, e)), less_last places (Some x) j z is))
     (λ c. let t = times_last c places (Some x) in omega (arith, t))
     (λ is. absurd (cc))
 
-pub steps_removed : (told : Option ℕ) (k k' : Knows) (x : SessionState) → Adds (event.Remove x.number) outcome.Done k k' → StepsSession told k k' x x
-steps_removed told k k' x adds = record {
-  steps = Removed x.number ∷ [];
-  own = (refl, tt);
-  gains = gains_one k k' (event.Remove x.number, outcome.Done) (made (event.Remove x.number) outcome.Done k k' adds);
-  timely = (tt, tt);
-  number = refl;
-  caller = refl;
-  asked = λ calls came a. subst (λ (l : List Call). AskedSoFar told l came x) (sym (append-nil calls)) a;
-  written = λ takes came a. subst (λ (l : List Outcome). WrittenSoFar l came x) (sym (append-nil takes)) a;
-}
+pub steps_removed : (told : Option ℕ) (k k' : Knows) (x : SessionState) → Adds (event.Remove x.number) outcome.Done k k' → RemovesSession told k k' x
+steps_removed told k k' x adds = (
+  record {
+    steps = Removed x.number ∷ [];
+    own = (refl, tt);
+    gains = gains_one k k' (event.Remove x.number, outcome.Done) (made (event.Remove x.number) outcome.Done k k' adds);
+    timely = (tt, tt);
+    number = refl;
+    caller = refl;
+    asked = λ calls came a. subst (λ (l : List Call). AskedSoFar told l came x) (sym (append-nil calls)) a;
+    ends = (λ e. inl e, λ e. inl e);
+    written = λ takes came a. subst (λ (l : List Outcome). WrittenSoFar l came x) (sym (append-nil takes)) a;
+  },
+  ([], [], refl),
+)

@@ -1,12 +1,12 @@
 -- The steps of one session, and what they add to its records.
-use Rattle.std.proofs.Common.{◌≡◌, ◌≤◌, ◌<◌, ◌+◌, ◌==◌, ℕ, zero, suc, Bool, true, false, List, [], ◌∷◌, ◌++◌, refl, sym, ap, ◌∙◌, subst, inl, inr, arith, append_assoc}
-use Rattle.std.specs.Prelude.{Option, Some, None, Result, Ok, Err, length, map, take, drop, if◌then◌else◌}
+use Rattle.std.proofs.Common.{◌≡◌, ◌⊎◌, ◌<◌, ◌==◌, ℕ, zero, suc, Bool, true, false, List, [], ◌∷◌, ◌++◌, refl, sym, ap, ◌∙◌, subst, inl, inr, arith, append_assoc}
+use Rattle.std.specs.Prelude.{Option, Some, None, Result, Ok, Err, length, take, drop, if◌then◌else◌}
 use Rattle.std.proofs.lemmas.List.{append-nil}
 use Rattle.std.proofs.lemmas.Grind.{flat_map-append}
 use Rattle.std.proofs.lemmas.Bool.Decides.{nat_tests}
 use Rattle.std.specs.Io.KnownBytes.{Keeps}
 use Rattle.byte_text.specs.Names.{Bytes}
-use Rattle.world_model.specs.Outcomes.{call_act, call_acts, last_call, IsCount}
+use Rattle.world_model.specs.Outcomes.{call_acts, IsCount}
 use Rattle.world_model.specs.Seats.{Knows, Act, Adds, AddsNamed}
 use Rattle.world_model.specs.declared.events.Asked.{Asked}
 use Rattle.world_model.specs.declared.events.CallOutcome.{CallOutcome}
@@ -14,27 +14,31 @@ use Rattle.world_model.specs.declared.events.CallOutcome.TheVariants as called
 use Rattle.world_model.specs.declared.events.Event.TheVariants as event
 use Rattle.world_model.specs.declared.events.Outcome.{Outcome}
 use Rattle.world_model.specs.declared.events.Outcome.TheVariants as outcome
-use Rattle.ready_links.specs.Links.{LinkState, Reads, Writes}
-use Rattle.ready_links.specs.declared.links.Got.{Got}
-use Rattle.ready_links.specs.declared.links.Got.TheVariants as got
-use Rattle.ready_links.specs.declared.links.Sent.{Sent}
-use Rattle.ready_links.specs.declared.links.Sent.TheVariants as sent
+use Rattle.outside.specs.Links.{LinkState, Reads, Writes}
+use Rattle.outside.specs.declared.links.Got.{Got}
+use Rattle.outside.specs.declared.links.Got.TheVariants as got
+use Rattle.outside.specs.declared.links.Sent.{Sent}
+use Rattle.outside.specs.declared.links.Sent.TheVariants as sent
 use Rattle.session_run.specs.Calls.{Call}
 use Rattle.session_run.specs.Gains.{Gains, gains_more, gains_one, gains_calls, made}
+use Rattle.session_run.specs.declared.ends.InEnd.{InEnd}
+use Rattle.session_run.specs.declared.ends.InEnd.TheVariants as ended
+use Rattle.session_run.specs.Ends.{end_of}
+use Rattle.session_run.specs.Filling.{IsFilled}
 use Rattle.session_run.specs.declared.phases.Asking.TheVariants.{Open, Breaking, Ended}
 use Rattle.session_run.specs.declared.phases.Asking.{Asking}
-use Rattle.session_run.specs.Sessions.{SessionState, demand, owed, WantsToRead, WantsTurn, WantsTake}
+use Rattle.session_run.specs.Sessions.{SessionState, demand, owed, WantsToRead, WantsTurn, WantsTake, CanDismiss, end_of_asking}
 use Rattle.session_run.specs.Outs.{bytes_given}
 use Rattle.session_run.specs.declared.phases.TakeEnd.{TakeEnd}
 use Rattle.session_run.specs.declared.phases.TakeEnd.TheVariants as took
 use Rattle.session_run.specs.SoFar.{AskedSoFar, WrittenSoFar, Owes}
-use Rattle.session_run.specs.Steps.{got_bytes, UnlessMemory, Readies, AsksOn, Answered, Takes, WritesOut}
+use Rattle.session_run.specs.Steps.{got_bytes, UnlessMemory, Readies, AsksOn, Answered, Takes, WritesOut, Dismisses, Cuts, taking_behind}
 use Rattle.session_run.specs.Turns.{turn_calls}
-use Rattle.session_run.specs.AskedSteps.{asked_read, asked_answered, asked_taken, asked_written}
-use Rattle.session_run.specs.WrittenSteps.{written_read, written_answered, written_taken, written_sent}
-use Rattle.serve_run.specs.Links.{IsTold}
+use Rattle.session_run.specs.AskedSteps.{asked_read, asked_answered, asked_taken, asked_written, asked_dismissed, asked_cut}
+use Rattle.session_run.specs.WrittenSteps.{written_read, written_answered, written_taken, written_sent, written_dismissed, written_cut}
+use Rattle.serve_run.specs.Tends.{IsTold}
 use Rattle.serve_run.specs.Steps.{Step, Called, Took, Closed, step_acts, steps_acts, calls_in, calls_of, takes_in, takes_of, AreTimely}
-use Rattle.serve_run.specs.SessionSteps.{IsOf, AreOf, StepsSession}
+use Rattle.serve_run.specs.SessionSteps.{AreOf, EndsBy, StepsSession, StepsOn, EndsEarly}
 
 pub same_test : (n : ℕ) → (n == n) ≡ true
 same_test n = grind (arith, nat_tests)
@@ -61,8 +65,13 @@ takes_more n a b = flat_map-append (takes_in n) a b
 pub gains_steps : (k1 k2 k3 : Knows) (a b : List Step) → Gains k1 k2 (steps_acts a) → Gains k2 k3 (steps_acts b) → Gains k1 k3 (steps_acts (a ++ b))
 gains_steps k1 k2 k3 a b p q = subst (λ (l : List Act). Gains k1 k3 l) (sym (acts_more a b)) (gains_more k1 k2 k3 (steps_acts a) (steps_acts b) p q)
 
-pub steps_more : (told : Option ℕ) (k1 k2 k3 : Knows) (s t u : SessionState) → StepsSession told k1 k2 s t → StepsSession told k2 k3 t u → StepsSession told k1 k3 s u
-steps_more told k1 k2 k3 s t u a b = record {
+further : {P Q early : Type 0} → P ⊎ early → (P → Q ⊎ early) → Q ⊎ early
+further (inl p) f = f p
+further (inr e) f = inr e
+
+pub steps_more : (told : Option ℕ) (early : Type 0) (k1 k2 k3 : Knows) (s t u : SessionState) → StepsSession told early k1 k2 s t
+    → StepsSession told early k2 k3 t u → StepsSession told early k1 k3 s u
+steps_more told early k1 k2 k3 s t u a b = record {
   steps = a.steps ++ b.steps;
   own = of_more s.number a.steps b.steps a.own (subst (λ (n : ℕ). AreOf n b.steps) a.number b.own);
   gains = gains_steps k1 k2 k3 a.steps b.steps a.gains b.gains;
@@ -73,18 +82,104 @@ steps_more told k1 k2 k3 s t u a b = record {
       (append_assoc calls (calls_of s.number a.steps) (calls_of s.number b.steps) ∙ ap (λ (l : List Call). calls ++ l) (sym (calls_more s.number a.steps b.steps)))
       (subst (λ (n : ℕ). AskedSoFar told ((calls ++ calls_of s.number a.steps) ++ calls_of n b.steps) came u) a.number
       (b.asked (calls ++ calls_of s.number a.steps) came (a.asked calls came x)));
+  ends = (λ e. further (b.ends.0 e) a.ends.0, λ e. further (b.ends.1 e) a.ends.1);
   written = λ takes came x. subst (λ (l : List Outcome). WrittenSoFar l came u)
       (append_assoc takes (takes_of s.number a.steps) (takes_of s.number b.steps) ∙ ap (λ (l : List Outcome). takes ++ l) (sym (takes_more s.number a.steps b.steps)))
       (subst (λ (n : ℕ). WrittenSoFar ((takes ++ takes_of s.number a.steps) ++ takes_of n b.steps) came u) a.number
       (b.written (takes ++ takes_of s.number a.steps) came (a.written takes came x)));
 }
 
+-- ---- how the server ends a session, and that others' steps don't
+
+some_end : (a b : InEnd) → Some a ≡ Some b → a ≡ b
+some_end a b e = cc
+
+ends_same : (early : Type 0) (s t : SessionState) → t.asking ≡ s.asking → t.taking ≡ s.taking → EndsBy early s t
+ends_same early s t asking taking = (λ e. inl (sym (ap end_of_asking asking) ∙ e), λ e. inl (sym taking ∙ e))
+
+ends_as : (s t : SessionState) (end : InEnd) → t.asking ≡ Ended end → (end ≡ ended.Dismissed → ⊥) → t.taking ≡ s.taking → EndsBy ⊥ s t
+ends_as s t end is other same = (λ e. absurd (other (some_end end ended.Dismissed (sym (ap end_of_asking is) ∙ e))), λ e. inl (sym same ∙ e))
+
+filled_goes : (s t : SessionState) (bytes : Bytes) (asking : Asking) → IsFilled s.held bytes t.held t.rest t.asked asking
+    → end_of_asking asking ≡ Some ended.Dismissed → ⊥
+filled_goes s t bytes Open f e = cc
+filled_goes s t bytes Breaking f e = cc
+filled_goes s t bytes (Ended ended.Memory) f e = cc
+filled_goes s t bytes (Ended end) f e = f
+
+ends_filled : (s t : SessionState) (bytes : Bytes) → IsFilled s.held bytes t.held t.rest t.asked t.asking → t.taking ≡ s.taking → EndsBy ⊥ s t
+ends_filled s t bytes f same = (λ e. absurd (filled_goes s t bytes t.asking f e), λ e. inl (sym same ∙ e))
+
+read_ends : {E : Type 0} (s t : SessionState) (r : Result Got E) (into : Bytes) → Readies s t r into → EndsBy ⊥ s t
+read_ends s t (Ok (got.Bytes n)) into is = ends_filled s t (take n into) is.0 (ap (λ (x : SessionState). x.taking) is.1)
+read_ends s t (Ok got.End) into is = ends_as s t ended.Over (ap (λ (x : SessionState). x.asking) is.0) (λ e. absurd (cc)) (ap (λ (x : SessionState). x.taking) is.0)
+read_ends s t (Ok got.Later) into is = ends_same ⊥ s t (ap (λ (x : SessionState). x.asking) is) (ap (λ (x : SessionState). x.taking) is)
+read_ends s t (Err e) into is = ends_as s t ended.ReadFault (ap (λ (x : SessionState). x.asking) is.0) (λ e. absurd (cc)) (ap (λ (x : SessionState). x.taking) is.0)
+
+fault_other : (t : Option TakeEnd) → t ≡ Some took.WriteFault → t ≡ Some took.Late → ⊥
+fault_other t p q = cc
+
+memory_other : (t : Option TakeEnd) → t ≡ Some took.Memory → t ≡ Some took.Late → ⊥
+memory_other t p q = cc
+
+write_ends : {E : Type 0} (s t : SessionState) (r : Result Sent E) → WritesOut s t r → EndsBy ⊥ s t
+write_ends s t (Ok (sent.Bytes n)) is = ends_same ⊥ s t (ap (λ (x : SessionState). x.asking) is) (ap (λ (x : SessionState). x.taking) is)
+write_ends s t (Ok sent.Later) is = ends_same ⊥ s t (ap (λ (x : SessionState). x.asking) is) (ap (λ (x : SessionState). x.taking) is)
+write_ends s t (Err e) is = (
+  λ a. inl (sym (ap (λ (x : SessionState). end_of_asking x.asking) is) ∙ a),
+  λ a. absurd (fault_other t.taking (ap (λ (x : SessionState). x.taking) is) a),
+)
+
+taking_other : (o : Outcome) → taking_behind o ≡ Some took.Late → ⊥
+taking_other outcome.Ended e = cc
+taking_other (outcome.Answered called.LogFault) e = cc
+taking_other (outcome.Answered called.Stopped) e = cc
+taking_other o e = cc
+
+take_ends : (s t : SessionState) (o : Outcome) → Takes s t o → EndsBy ⊥ s t
+take_ends s t (outcome.Given frames) (inl is) = ends_same ⊥ s t (ap (λ (x : SessionState). x.asking) is) (ap (λ (x : SessionState). x.taking) is)
+take_ends s t (outcome.Given frames) (inr is) = (
+  λ a. inl (sym (ap (λ (x : SessionState). end_of_asking x.asking) is) ∙ a),
+  λ a. absurd (memory_other t.taking (ap (λ (x : SessionState). x.taking) is) a),
+)
+take_ends s t o is = (
+  λ a. inl (sym (ap (λ (x : SessionState). end_of_asking x.asking) is) ∙ a),
+  λ a. absurd (taking_other o (sym (ap (λ (x : SessionState). x.taking) is) ∙ a)),
+)
+
+called_other : (end : CallOutcome) (why : InEnd) → end_of end ≡ Some why → why ≡ ended.Dismissed → ⊥
+called_other called.Ok why is e = cc
+called_other called.Full why is e = cc
+called_other called.Gone why is e = cc
+called_other called.LogFault why is e = cc
+called_other called.Stopped why is e = cc
+called_other called.Spent why is e = cc
+called_other called.Memory why is e = cc
+
+on_ends : (asking : Asking) (s t : SessionState) → AsksOn asking s t → EndsBy ⊥ s t
+on_ends Open s t is = ends_filled s t s.rest is.0 (ap (λ (x : SessionState). x.taking) is.1)
+on_ends Breaking s t is = ends_as s t ended.Broken (ap (λ (x : SessionState). x.asking) is.0) (λ e. absurd (cc)) (ap (λ (x : SessionState). x.taking) is.0)
+on_ends (Ended end) s t is = ends_same ⊥ s t (ap (λ (x : SessionState). x.asking) is) (ap (λ (x : SessionState). x.taking) is)
+
+stop_ends : (s t : SessionState) (asked : List Asked) (served : ℕ) (end : CallOutcome) → ((why : InEnd) × (end_of end ≡ Some why)
+    × (t ≡ record s { asked = drop served asked; asking = Ended why })) → EndsBy ⊥ s t
+stop_ends s t asked served end is = ends_as s t is.0 (ap (λ (x : SessionState). x.asking) is.2) (called_other end is.0 is.1) (ap (λ (x : SessionState). x.taking) is.2)
+
+answer_ends : (s t : SessionState) (asked : List Asked) (served : ℕ) (end : CallOutcome) → Answered s t asked served end → EndsBy ⊥ s t
+answer_ends s t asked served called.Ok is = on_ends s.asking s t is
+answer_ends s t asked served called.Full is = ends_same ⊥ s t (ap (λ (x : SessionState). x.asking) is) (ap (λ (x : SessionState). x.taking) is)
+answer_ends s t asked served called.Gone is = stop_ends s t asked served called.Gone is
+answer_ends s t asked served called.LogFault is = stop_ends s t asked served called.LogFault is
+answer_ends s t asked served called.Stopped is = stop_ends s t asked served called.Stopped is
+answer_ends s t asked served called.Spent is = stop_ends s t asked served called.Spent is
+answer_ends s t asked served called.Memory is = stop_ends s t asked served called.Memory is
+
 -- ---- steps that ask nothing of the hall
 
-quiet : (told : Option ℕ) (k : Knows) (s t : SessionState) → t.number ≡ s.number → t.line.caller ≡ s.line.caller
+quiet : (told : Option ℕ) (early : Type 0) (k : Knows) (s t : SessionState) → EndsBy early s t → t.number ≡ s.number → t.line.caller ≡ s.line.caller
     → ((calls : List Call) → (came : LinkState) → AskedSoFar told calls came s → AskedSoFar told calls came t)
-    → ((takes : List Outcome) → (came : LinkState) → WrittenSoFar takes came s → WrittenSoFar takes came t) → StepsSession told k k s t
-quiet told k s t number caller asked written = record {
+    → ((takes : List Outcome) → (came : LinkState) → WrittenSoFar takes came s → WrittenSoFar takes came t) → StepsSession told early k k s t
+quiet told early k s t ends number caller asked written = record {
   steps = [];
   own = tt;
   gains = refl;
@@ -92,11 +187,12 @@ quiet told k s t number caller asked written = record {
   number = number;
   caller = caller;
   asked = λ calls came x. subst (λ (l : List Call). AskedSoFar told l came t) (sym (append-nil calls)) (asked calls came x);
+  ends = ends;
   written = λ takes came x. subst (λ (l : List Outcome). WrittenSoFar l came t) (sym (append-nil takes)) (written takes came x);
 }
 
-pub steps_none : (told : Option ℕ) (k : Knows) (s : SessionState) → StepsSession told k k s s
-steps_none told k s = quiet told k s s refl refl (λ calls came x. x) (λ takes came x. x)
+pub steps_none : (told : Option ℕ) (early : Type 0) (k : Knows) (s : SessionState) → StepsSession told early k k s s
+steps_none told early k s = quiet told early k s s (ends_same early s s refl refl) refl refl (λ calls came x. x) (λ takes came x. x)
 
 read_number : {E : Type 0} (s t : SessionState) (r : Result Got E) (into : Bytes) → Readies s t r into → t.number ≡ s.number
 read_number s t (Ok (got.Bytes n)) into is = ap (λ (x : SessionState). x.number) is.1
@@ -111,8 +207,8 @@ read_caller s t (Ok got.Later) into is = ap (λ (x : LinkState). x.caller) is
 read_caller s t (Err e) into is = ap (λ (x : LinkState). x.caller) is.same
 
 pub steps_read : {E : Type 0} (told : Option ℕ) (k : Knows) (s t : SessionState) (r : Result Got E) (into : Bytes) → WantsToRead s → Reads s.line t.line r into
-    → Readies s t r into → UnlessMemory t.asking ((more : Bytes) → demand s (got_bytes r into ++ more) ≡ demand t more) → StepsSession told k k s t
-steps_read told k s t r into wants reads readies goes = quiet told k s t (read_number s t r into readies) (read_caller s.line t.line r into reads)
+    → Readies s t r into → UnlessMemory t.asking ((more : Bytes) → demand s (got_bytes r into ++ more) ≡ demand t more) → StepsOn told k k s t
+steps_read told k s t r into wants reads readies goes = quiet told ⊥ k s t (read_ends s t r into readies) (read_number s t r into readies) (read_caller s.line t.line r into reads)
     (λ calls came x. asked_read told calls came s t into wants x r reads readies goes) (λ takes came x. written_read takes came s x t r into reads readies)
 
 write_number : {E : Type 0} (s t : SessionState) (r : Result Sent E) → WritesOut s t r → t.number ≡ s.number
@@ -126,9 +222,22 @@ write_caller s t (Ok sent.Later) piece is = ap (λ (x : LinkState). x.caller) is
 write_caller s t (Err e) piece is = ap (λ (x : LinkState). x.caller) is.same
 
 pub steps_written : {E : Type 0} (told : Option ℕ) (k : Knows) (s t : SessionState) (r : Result Sent E) → Writes s.line t.line r s.out → WritesOut s t r
-    → Keeps (owed s) (owed t) → StepsSession told k k s t
-steps_written told k s t r writes out keeps = quiet told k s t (write_number s t r out) (write_caller s.line t.line r s.out writes)
+    → Keeps (owed s) (owed t) → StepsOn told k k s t
+steps_written told k s t r writes out keeps = quiet told ⊥ k s t (write_ends s t r out) (write_number s t r out) (write_caller s.line t.line r s.out writes)
     (λ calls came x. asked_written told calls came s t x r writes out) (λ takes came x. written_sent takes came s x t r writes out keeps)
+
+-- ---- an end by the server
+
+pub steps_dismissed : (told : Option ℕ) (k : Knows) (s t : SessionState) → CanDismiss s → Dismisses s t → EndsEarly told k s t
+steps_dismissed told k s t can is = quiet told (Unit {0}) k s t (λ e. inr tt, λ e. inl (sym (ap (λ (x : SessionState). x.taking) is.0) ∙ e))
+    (ap (λ (x : SessionState). x.number) is.0) (ap (λ (x : SessionState). x.line.caller) is.0)
+    (λ calls came x. asked_dismissed told calls came s t can x is) (λ takes came x. written_dismissed takes came s x t is)
+
+pub steps_cut : (told : Option ℕ) (k : Knows) (s t : SessionState) → s.taking ≡ None → Cuts s t → EndsEarly told k s t
+steps_cut told k s t none is = quiet told (Unit {0}) k s t
+    (λ e. inl (sym (ap (λ (x : SessionState). end_of_asking x.asking) is) ∙ e), λ e. inr tt)
+    (ap (λ (x : SessionState). x.number) is) (ap (λ (x : SessionState). x.line.caller) is)
+    (λ calls came x. asked_cut told calls came s t x is) (λ takes came x. written_cut takes came s x t none is)
 
 -- ---- a take, and a close
 
@@ -146,7 +255,7 @@ take_caller s t (outcome.Given frames) (inr is) = ap (λ (x : SessionState). x.l
 take_caller s t o is = ap (λ (x : SessionState). x.line.caller) is
 
 pub steps_taken : (told : Option ℕ) (k k' : Knows) (s t : SessionState) (o : Outcome) → WantsTake s → Adds (event.Take s.number) o k k' → Takes s t o
-    → StepsSession told k k' s t
+    → StepsOn told k k' s t
 steps_taken told k k' s t o wants adds takes = record {
   steps = Took s.number o ∷ [];
   own = (refl, tt);
@@ -155,10 +264,11 @@ steps_taken told k k' s t o wants adds takes = record {
   number = take_number s t o takes;
   caller = take_caller s t o takes;
   asked = λ calls came x. subst (λ (l : List Call). AskedSoFar told l came t) (sym (append-nil calls)) (asked_taken told calls came s t x o takes);
+  ends = take_ends s t o takes;
   written = λ before came x. subst (λ (l : List Outcome). WrittenSoFar (before ++ l) came t) (sym (taken_at s.number o)) (written_taken before came s x t o wants takes);
 }
 
-pub steps_closed : (told : Option ℕ) (k k' : Knows) (s : SessionState) → Adds (event.Close s.number) outcome.Done k k' → StepsSession told k k' s s
+pub steps_closed : (told : Option ℕ) (k k' : Knows) (s : SessionState) → Adds (event.Close s.number) outcome.Done k k' → StepsOn told k k' s s
 steps_closed told k k' s adds = record {
   steps = Closed s.number ∷ [];
   own = (refl, tt);
@@ -167,6 +277,7 @@ steps_closed told k k' s adds = record {
   number = refl;
   caller = refl;
   asked = λ calls came x. subst (λ (l : List Call). AskedSoFar told l came s) (sym (append-nil calls)) x;
+  ends = ends_same ⊥ s s refl refl;
   written = λ takes came x. subst (λ (l : List Outcome). WrittenSoFar l came s) (sym (append-nil takes)) x;
 }
 
@@ -201,6 +312,7 @@ owes_bare : (t : Option TakeEnd) (held : Option Bytes) (s : SessionState) (given
 owes_bare None held s given o = o
 owes_bare (Some took.WriteFault) held s given o = o
 owes_bare (Some took.Memory) held s given o = o
+owes_bare (Some took.Late) held s given o = o
 owes_bare (Some end) held s given o = o
 
 -- the requests in hand, of a session from which they were moved out
@@ -208,7 +320,7 @@ steps_answered : (told : Option ℕ) (m : ℕ) → IsTold told m → (k k' : Kno
     → WantsTurn s → IsCount served end (length s.asked) → AddsNamed (call_acts s.number m s.asked served end) named k k'
     → Answered (record s { asked = [] }) t s.asked served end
     → UnlessMemory t.asking ((more : Bytes) → demand s more ≡ take served s.asked ++ demand t more)
-    → StepsSession told k k' s t
+    → StepsOn told k k' s t
 steps_answered told m timely k k' s t served end named wants count adds answered goes =
     let same = answered_same (record s { asked = [] }) t s.asked served end answered in
     record {
@@ -221,6 +333,7 @@ steps_answered told m timely k k' s t served end named wants count adds answered
       caller = same.1;
       asked = λ calls came x. subst (λ (l : List Call). AskedSoFar told (calls ++ l) came t) (sym (called_at s.number m served end s.asked))
           (asked_answered told calls came (record s { asked = [] }) t s.asked served m timely wants.0 x end count refl answered goes);
+      ends = answer_ends (record s { asked = [] }) t s.asked served end answered;
       written = λ takes came x. subst (λ (l : List Outcome). WrittenSoFar l came t) (sym (append-nil takes))
           (written_answered takes came (record s { asked = [] }) (written_bare takes came s x) t s.asked served end answered);
     }
@@ -232,7 +345,7 @@ pub steps_asked : (told : Option ℕ) (m : ℕ) → IsTold told m → (k k' : Kn
     (named : List ℕ) → WantsTurn s → moved ≡ s.asked → mid ≡ record s { asked = [] } → asked ≡ moved → IsCount served end (length moved)
     → AddsNamed (call_acts mid.number m moved served end) named k k' → Answered mid t asked served end
     → UnlessMemory t.asking ((more : Bytes) → demand (record mid { asked = asked }) more ≡ take served asked ++ demand t more)
-    → StepsSession told k k' s t
+    → StepsOn told k k' s t
 steps_asked told m timely k k' s mid t moved asked served end named wants is bare back count adds answered goes =
     let all : asked ≡ s.asked = back ∙ is in
     steps_answered told m timely k k' s t served end named wants

@@ -1,17 +1,18 @@
 -- How parts of a loop's round leave it, and what ends it.
-use Rattle.std.specs.Prelude.{◌≡◌, ◌⊎◌, ◌≤◌, ◌++◌, ◌+◌, ◌∷◌, ℕ, Bool, true, false, List, [], Option, Some, None, Result, Ok, Err, option_map, if◌then◌else◌}
+use Rattle.std.specs.Prelude.{◌≡◌, ◌⊎◌, ◌≤◌, ◌++◌, ◌∷◌, ℕ, Bool, true, false, List, [], Option, Some, None, Result, Ok, Err, option_map}
 use Rattle.std.specs.List.{slice_get}
 use Rattle.outside.specs.Causes.{Rose}
 use Rattle.world_model.specs.Seats.{Knows}
-use Rattle.ready_links.specs.Links.{LinkState}
-use Rattle.ready_links.specs.Waits.{WaitState}
+use Rattle.outside.specs.Links.{LinkState}
+use Rattle.outside.specs.Waits.{WaitState}
 use Rattle.session_run.specs.Sessions.{SessionState}
 use Rattle.serve_run.specs.declared.tends.ServeEnd.{ServeEnd}
 use Rattle.serve_run.specs.declared.tends.ServeEnd.TheVariants as end
 use Rattle.serve_run.specs.declared.joins.Unseated.{Unseated}
 use Rattle.serve_run.specs.declared.joins.Unseated.TheVariants as unseated
-use Rattle.serve_run.specs.Links.{TendsLast}
-use Rattle.serve_run.specs.Loops.{Around}
+use Rattle.serve_run.specs.declared.terms.Terms.{Terms}
+use Rattle.serve_run.specs.Tends.{TendsLast}
+use Rattle.serve_run.specs.Loops.{Around, IsLastCaller}
 use Rattle.serve_run.specs.LoopStates.{LoopState, Holds, KeepsTable, NoneOpen}
 
 -- the one that waits was told of a link that was shut, or could not tell it
@@ -38,24 +39,33 @@ abbrev pub at_end : ServeEnd → Knows → LoopState → LoopState
 at_end end.Done mid t = record t { around = record t.around { knows = mid }; goes_on = true }
 at_end e mid t = stopped mid t
 
+-- no caller comes any more
+abbrev pub IsLastOf : Terms → Bool → ℕ → Bool → Type 0
+IsLastOf terms over joined is_over = IsLastCaller terms (is_over ≡ true) over joined
+
 -- why a loop ends, from where it began: the last entries of the seat are those behind `mid`
-abbrev pub EndsFrom : Option ℕ → ℕ → ServeEnd → Around → LoopState → Knows → Type 0
-EndsFrom told limit end.Done old t mid = (mid ≡ t.around.knows) × NoneOpen t.places × ((t.is_over ≡ true) ⊎ (t.joined ≡ limit))
-EndsFrom told limit end.DoorFault old t mid = (mid ≡ t.around.knows) × (Rose old.door.faults t.around.door.faults
+abbrev pub EndsFrom : Option ℕ → Terms → ServeEnd → Around → LoopState → Knows → Type 0
+EndsFrom told terms end.Done old t mid = (mid ≡ t.around.knows) × NoneOpen t.places
+    × IsLastOf terms t.around.wait.over t.joined t.is_over
+EndsFrom told terms end.DoorFault old t mid = (mid ≡ t.around.knows) × (Rose old.door.faults t.around.door.faults
     ⊎ Rose old.wait.faults t.around.wait.faults)
-EndsFrom told limit end.Stopped old t mid = TendsLast told mid t.around.knows end.Stopped
-EndsFrom told limit end.Spent old t mid = TendsLast told mid t.around.knows end.Spent
-EndsFrom told limit end.Memory old t mid = TendsLast told mid t.around.knows end.Memory ⊎ (mid ≡ t.around.knows)
+EndsFrom told terms end.Stopped old t mid = TendsLast told mid t.around.knows end.Stopped
+EndsFrom told terms end.Spent old t mid = TendsLast told mid t.around.knows end.Spent
+EndsFrom told terms end.Memory old t mid = TendsLast told mid t.around.knows end.Memory ⊎ (mid ≡ t.around.knows)
 
 -- what a loop kept it keeps, or it ends so
-abbrev pub Leaves : Option ℕ → ℕ → Around → LoopState → Option ServeEnd → Type 0
-Leaves told limit old t None = Holds told old t
-Leaves told limit old t (Some e) = (mid : Knows) × Holds told old (at_end e mid t) × EndsFrom told limit e old t mid
+abbrev pub Leaves : Option ℕ → Terms → Around → LoopState → Option ServeEnd → Type 0
+Leaves told terms old t None = Holds told terms old t
+Leaves told terms old t (Some e) = (mid : Knows) × Holds told terms old (at_end e mid t) × EndsFrom told terms e old t mid
 
-abbrev pub LoopTurn : Option ℕ → ℕ → LoopState → LoopState → Option ServeEnd → Type 0
-LoopTurn told limit s t result = (old : Around) → Holds told old s → Leaves told limit old t result
+abbrev pub LoopTurn : Option ℕ → Terms → LoopState → LoopState → Option ServeEnd → Type 0
+LoopTurn told terms s t result = (old : Around) → Holds told terms old s → Leaves told terms old t result
 
--- a Tick and the Rewrites behind it were made, where one was due
-abbrev pub TendsTable : Option ℕ → Knows → Knows → Option ServeEnd → Type 0
-TendsTable told k k' None = (places : List (Option SessionState)) → KeepsTable told k k' places places
-TendsTable told k k' (Some e) = TendsLast told k k' e
+-- the seat's own entries were made that were due
+abbrev pub KeepsAside : Option ℕ → Terms → Knows → Knows → Type 0
+KeepsAside told terms k k' = (places : List (Option SessionState)) → KeepsTable told terms k k' places places
+
+-- the same, or those behind them brought the end
+abbrev pub TendsTable : Option ℕ → Terms → Knows → Knows → Option ServeEnd → Type 0
+TendsTable told terms k k' None = KeepsAside told terms k k'
+TendsTable told terms k k' (Some e) = (mid : Knows) × KeepsAside told terms k mid × TendsLast told mid k' e

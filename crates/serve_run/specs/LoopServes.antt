@@ -5,10 +5,15 @@ use mathlib.Core.List.{IsPrefix}
 use Rattle.byte_text.specs.Names.{Bytes}
 use Rattle.outside.specs.Causes.{Rose}
 use Rattle.serve_run.specs.declared.tends.ServeEnd.{ServeEnd}
+use Rattle.serve_run.specs.declared.terms.Terms.{Terms}
 use Rattle.serve_run.specs.Ends.{IsEnd, memory_line, door_line}
 use Rattle.serve_run.specs.Loops.{Around, ServesReady}
 use Rattle.serve_run.specs.Serves.{Finishes, listening_line}
 use Rattle.serve_run.specs.Words.{Serve}
+
+-- what the words ask of the loop
+abbrev pub terms_of : Serve → Terms
+terms_of s = record { limit = s.limit; idle = s.idle; shrink_at = s.shrink_at; until_end = s.until_end }
 
 -- the same, with the door opened at an address
 abbrev pub opened_at : Bytes → Around → Around
@@ -26,7 +31,7 @@ pub record IsUnopenedLoop (old new : Around) (held held' : Option Bytes) (status
   pub later : old.door.faults ≤ new.door.faults
   pub ended : IsEnd held held' 8 door_line status
 
--- the door was opened, and could not be watched
+-- the door was opened, and could not be watched, or the end of the server could not
 pub record IsUnwatchedLoop (addr : Bytes) (old new : Around) (held held' : Option Bytes) (status : ℕ) : Type 0 where
   pub same : new ≡ record (opened_at addr old) { wait = record old.wait { faults = new.wait.faults } }
   pub cause : Rose old.wait.faults new.wait.faults
@@ -46,7 +51,7 @@ pub record IsServedLoop (told : Option ℕ) (s : Serve) (old new : Around) (held
   pub joined : ℕ
   pub starved : ℕ
   pub end : ServeEnd
-  pub serves : ServesReady told s.limit (opened_at s.addr old) new joined starved end
+  pub serves : ServesReady told (terms_of s) (opened_at s.addr old) new joined starved end
   pub finishes : Finishes end joined starved between held' status
 
 -- what the words ask for was done, as far as this says

@@ -1,20 +1,20 @@
 -- What a loop keeps from step to step.
-use Rattle.std.specs.Prelude.{◌≡◌, ◌==◌, ◌≤◌, ◌+◌, ℕ, Bool, true, false, List, [], ◌∷◌, ◌++◌, Option, Some, None, option_map, min}
+use Rattle.std.specs.Prelude.{◌≡◌, ◌==◌, ◌≤◌, ◌+◌, ℕ, Bool, true, List, [], ◌∷◌, ◌++◌, Option, Some, None, option_map, min}
 use Rattle.std.specs.List.{slice_get}
 use Rattle.outside.specs.Causes.{Rose, most_count}
 use Rattle.world_model.specs.declared.events.Outcome.TheVariants as outcome
-use Rattle.world_model.specs.Seats.{Knows, Act}
-use Rattle.ready_links.specs.Links.{LinkState, IsNew}
-use Rattle.ready_links.specs.Doors.{DoorState}
-use Rattle.ready_links.specs.Waits.{WaitState}
+use Rattle.world_model.specs.Seats.{Knows}
+use Rattle.outside.specs.Links.{LinkState, IsNew}
+use Rattle.outside.specs.Doors.{DoorState}
+use Rattle.outside.specs.Waits.{WaitState}
 use Rattle.session_run.specs.Gains.{Gains}
-use Rattle.session_run.specs.Sessions.{SessionState}
+use Rattle.session_run.specs.Sessions.{SessionState, end_of_asking}
 use Rattle.session_run.specs.SoFar.{AskedSoFar, WrittenSoFar}
-use Rattle.serve_run.specs.declared.tends.ServeEnd.{ServeEnd}
-use Rattle.serve_run.specs.Links.{IsTold}
-use Rattle.serve_run.specs.Loops.{Around, around, ServesReady}
+use Rattle.serve_run.specs.declared.terms.Terms.{Terms}
+use Rattle.serve_run.specs.Loops.{Around, around}
 use Rattle.serve_run.specs.Steps.{Step, Joined, steps_acts, calls_of, takes_of, callers_of, numbered, behind_callers, AreTimely, IsAmong}
-use Rattle.serve_run.specs.Runs.{LinkRun, LinkFate, AreRuns, AreThrough, WatchFaults, one_if, times, times_shut, told_links, starved_of}
+use Rattle.serve_run.specs.Runs.{LinkRun, LinkFate, AreRuns, AreThrough, AreRemoved, WatchFaults, MayEnd, EndCause}
+use Rattle.serve_run.specs.Runs.{FateCauses, one_if, times, times_shut, told_links, starved_of}
 use Rattle.serve_run.specs.Runs.{TurnedOut, Starved, Unwatched, Served}
 
 -- where a loop stands: what is around it; its table of open sessions; how many callers came, and how many were removed for want of memory;
@@ -73,7 +73,7 @@ abbrev pub NeverJoined : ℕ → List Step → Type 0
 NeverJoined n steps = (caller : ℕ) → IsAmong (Joined caller (outcome.Entered n)) steps → ⊥
 
 -- what the loop keeps, from where it began on
-pub record Holds (told : Option ℕ) (old : Around) (s : LoopState) : Type 0 where
+pub record Holds (told : Option ℕ) (terms : Terms) (old : Around) (s : LoopState) : Type 0 where
   pub steps : List Step
   pub gains : Gains old.knows s.around.knows (steps_acts steps)
   pub timely : AreTimely told steps
@@ -89,7 +89,11 @@ pub record Holds (told : Option ℕ) (old : Around) (s : LoopState) : Type 0 whe
   pub shut : s.around.wait.shut ≡ option_map (λ links. links ++ told_links runs) old.wait.shut
   pub starved_are : s.starved ≡ starved_of runs
   pub unwatched : WatchFaults (Rose old.wait.faults s.around.wait.faults) runs
+  pub early : FateCauses (MayEnd terms s.around.wait.over) runs
+  pub early_open : (i : ℕ) → (x : SessionState) → slice_get s.places i ≡ Some (Some x)
+      → EndCause (MayEnd terms s.around.wait.over) (end_of_asking x.asking) x.taking
   pub through : s.goes_on ≡ true → AreThrough runs
+  pub removed : s.goes_on ≡ true → AreRemoved steps runs
   pub addr : s.around.door.addr ≡ old.door.addr
   pub door_ends : min old.door.ends most_count ≤ s.around.door.ends
   pub over_cause : s.is_over ≡ true → Rose old.door.ends s.around.door.ends
@@ -97,18 +101,23 @@ pub record Holds (told : Option ℕ) (old : Around) (s : LoopState) : Type 0 whe
   pub wait_later : old.wait.faults ≤ s.around.wait.faults
 
 -- whatever the loop began with: what it kept, it keeps
-abbrev pub Keeps : Option ℕ → LoopState → LoopState → Type 0
-Keeps told s t = (old : Around) → Holds told old s → Holds told old t
+abbrev pub Keeps : Option ℕ → Terms → LoopState → LoopState → Type 0
+Keeps told terms s t = (old : Around) → Holds told terms old s → Holds told terms old t
 
 -- sessions of the table went on, and all else is as it was
-abbrev pub KeepsTable : Option ℕ → Knows → Knows → List (Option SessionState) → List (Option SessionState) → Type 0
-KeepsTable told k k' places places' = (d : DoorState) → (w : WaitState) → (joined starved : ℕ) → (is_over goes_on : Bool)
-    → Keeps told (loop_state k d w places joined starved is_over goes_on) (loop_state k' d w places' joined starved is_over goes_on)
+abbrev pub KeepsTable : Option ℕ → Terms → Knows → Knows → List (Option SessionState) → List (Option SessionState) → Type 0
+KeepsTable told terms k k' places places' = (d : DoorState) → (w : WaitState) → (joined starved : ℕ) → (is_over goes_on : Bool)
+    → Keeps told terms (loop_state k d w places joined starved is_over goes_on) (loop_state k' d w places' joined starved is_over goes_on)
 
 -- the same, and the one that waits was given links to shut; the loop goes on only where it could tell each
-abbrev pub KeepsShut : Option ℕ → Knows → Knows → WaitState → WaitState → List (Option SessionState) → List (Option SessionState) → Bool → Type 0
-KeepsShut told k k' w w' places places' is_told = (d : DoorState) → (joined starved : ℕ) → (is_over : Bool)
-    → Keeps told (loop_state k d w places joined starved is_over true) (loop_state k' d w' places' joined starved is_over is_told)
+abbrev pub KeepsShut : Option ℕ → Terms → Knows → Knows → WaitState → WaitState → List (Option SessionState) → List (Option SessionState) → Bool → Type 0
+KeepsShut told terms k k' w w' places places' is_told = (d : DoorState) → (joined starved : ℕ) → (is_over : Bool)
+    → Keeps told terms (loop_state k d w places joined starved is_over true) (loop_state k' d w' places' joined starved is_over is_told)
+
+-- the server ended sessions of the table by itself, and all else is as it was
+abbrev pub KeepsEarly : Option ℕ → Terms → Knows → WaitState → List (Option SessionState) → List (Option SessionState) → Type 0
+KeepsEarly told terms k w places places' = (d : DoorState) → (joined starved : ℕ) → (is_over goes_on : Bool)
+    → Keeps told terms (loop_state k d w places joined starved is_over goes_on) (loop_state k d w places' joined starved is_over goes_on)
 
 -- no session is open
 abbrev pub NoneOpen : List (Option SessionState) → Type 0

@@ -1,16 +1,16 @@
 -- What a loop that serves links over readiness does.
-use Rattle.std.specs.Prelude.{◌≡◌, ◌⊎◌, ◌≤◌, ℕ, Bool, true, false, List, [], ◌++◌, Option, option_map}
+use Rattle.std.specs.Prelude.{◌≡◌, ◌⊎◌, ◌≤◌, ℕ, Bool, true, List, [], ◌++◌, Option, option_map}
 use Rattle.outside.specs.Causes.{Rose}
 use Rattle.world_model.specs.Seats.{Knows, Act}
-use Rattle.ready_links.specs.Links.{LinkState}
-use Rattle.ready_links.specs.Doors.{DoorState}
-use Rattle.ready_links.specs.Waits.{WaitState}
+use Rattle.outside.specs.Doors.{DoorState}
+use Rattle.outside.specs.Waits.{WaitState}
 use Rattle.session_run.specs.Gains.{Gains}
 use Rattle.serve_run.specs.declared.tends.ServeEnd.{ServeEnd}
 use Rattle.serve_run.specs.declared.tends.ServeEnd.TheVariants as end
-use Rattle.serve_run.specs.Links.{IsLast}
+use Rattle.serve_run.specs.declared.terms.Terms.{Terms}
+use Rattle.serve_run.specs.Tends.{IsLast}
 use Rattle.serve_run.specs.Steps.{Step, steps_acts, callers_of, numbered, behind_callers, AreTimely}
-use Rattle.serve_run.specs.Runs.{LinkRun, AreRuns, AreThrough, WatchFaults, times, times_shut, told_links, starved_of}
+use Rattle.serve_run.specs.Runs.{LinkRun, AreRuns, AreThrough, AreRemoved, WatchFaults, MayEnd, FateCauses, times, times_shut, told_links, starved_of}
 
 -- where a loop stands: what its seat has seen, its door, and the one that waits
 pub record Around : Type 0 where
@@ -21,19 +21,25 @@ pub record Around : Type 0 where
 abbrev pub around : Knows → DoorState → WaitState → Around
 around knows door wait = record { knows = knows; door = door; wait = wait }
 
--- Why the loop ended. The door told that no caller will come, or as many came as are served, and all links are through; or the door failed,
+-- no caller comes any more: the door told so, or as many came as are served, or the end was asked for
+abbrev pub IsLastCaller : Terms → Type 0 → Bool → ℕ → Type 0
+IsLastCaller terms told over joined = told ⊎ ((joined ≡ terms.limit) ⊎ ((terms.until_end ≡ true) × (over ≡ true)))
+
+-- Why the loop ended. No caller comes any more, and all links are through; or the door failed,
 -- or the one that waits; or a Tick or Rewrite was answered so. Memory is free too where each was answered Ok.
-abbrev pub LoopEndsBy : ServeEnd → Option ℕ → ℕ → List Act → Around → Around → ℕ → List LinkRun → Type 0
-LoopEndsBy end.Done told limit last old new joined runs = (last ≡ []) × (Rose old.door.ends new.door.ends ⊎ (joined ≡ limit)) × AreThrough runs
-LoopEndsBy end.DoorFault told limit last old new joined runs = (last ≡ []) × (Rose old.door.faults new.door.faults ⊎ Rose old.wait.faults new.wait.faults)
-LoopEndsBy end.Stopped told limit last old new joined runs = IsLast told end.Stopped last
-LoopEndsBy end.Spent told limit last old new joined runs = IsLast told end.Spent last
-LoopEndsBy end.Memory told limit last old new joined runs = IsLast told end.Memory last ⊎ (last ≡ [])
+abbrev pub LoopEndsBy : ServeEnd → Option ℕ → Terms → List Act → Around → Around → ℕ → List LinkRun → Type 0
+LoopEndsBy end.Done told terms last old new joined runs = (last ≡ [])
+    × IsLastCaller terms (Rose old.door.ends new.door.ends) new.wait.over joined × AreThrough runs
+LoopEndsBy end.DoorFault told terms last old new joined runs = (last ≡ []) × (Rose old.door.faults new.door.faults ⊎ Rose old.wait.faults new.wait.faults)
+LoopEndsBy end.Stopped told terms last old new joined runs = IsLast told end.Stopped last
+LoopEndsBy end.Spent told terms last old new joined runs = IsLast told end.Spent last
+LoopEndsBy end.Memory told terms last old new joined runs = IsLast told end.Memory last ⊎ (last ≡ [])
 
 -- The seat's new entries are those of these steps, and then the last ones, which brought the end. Each caller who came bears the next
 -- number of the door; each is the caller of exactly one link, and none is left open: what was shut is told by the one that waits, link by
--- link, as each was then. For each link, its calls, its takes and what it was written are as its run says.
-pub record ServesReady (told : Option ℕ) (limit : ℕ) (old new : Around) (joined starved : ℕ) (end : ServeEnd) : Type 0 where
+-- link, as each was then. For each link, its calls, its takes and what it was written are as its run says. Where the loop ends in order, no
+-- session of a link is left in the hall.
+pub record ServesReady (told : Option ℕ) (terms : Terms) (old new : Around) (joined starved : ℕ) (why : ServeEnd) : Type 0 where
   pub steps : List Step
   pub last : List Act
   pub gains : Gains old.knows new.knows (steps_acts steps ++ last)
@@ -46,8 +52,10 @@ pub record ServesReady (told : Option ℕ) (limit : ℕ) (old new : Around) (joi
   pub shut : new.wait.shut ≡ option_map (λ links. links ++ told_links runs) old.wait.shut
   pub starved_are : starved ≡ starved_of runs
   pub unwatched : WatchFaults (Rose old.wait.faults new.wait.faults) runs
+  pub early : FateCauses (MayEnd terms new.wait.over) runs
   pub addr : new.door.addr ≡ old.door.addr
   pub door_later : old.door.faults ≤ new.door.faults
   pub wait_later : old.wait.faults ≤ new.wait.faults
-  pub within : joined ≤ limit
-  pub ended : LoopEndsBy end told limit last old new joined runs
+  pub removed : why ≡ end.Done → AreRemoved steps runs
+  pub within : joined ≤ terms.limit
+  pub ended : LoopEndsBy why told terms last old new joined runs

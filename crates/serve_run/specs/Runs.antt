@@ -1,5 +1,5 @@
 -- What became of a link: what it was asked, and what it was written.
-use Rattle.std.specs.Prelude.{◌≡◌, ◌==◌, ◌+◌, ℕ, Bool, true, false, List, [], ◌∷◌, ◌++◌, flat_map, Option, Some, None, if◌then◌else◌}
+use Rattle.std.specs.Prelude.{◌≡◌, ◌==◌, ◌+◌, ◌<◌, ◌⊎◌, ℕ, Bool, true, false, List, [], ◌∷◌, ◌++◌, flat_map, Option, Some, None, if◌then◌else◌}
 use Rattle.std.specs.Io.KnownBytes.{Appends, Consumes, IsAtEnd}
 use Rattle.outside.specs.Causes.{Rose}
 use Rattle.outside.specs.Writing.{AppendsPart}
@@ -7,7 +7,7 @@ use Rattle.byte_text.specs.Names.{Bytes}
 use Rattle.world_model.specs.declared.events.Asked.{Asked}
 use Rattle.world_model.specs.declared.events.Outcome.{Outcome}
 use Rattle.world_model.specs.declared.events.Outcome.TheVariants as outcome
-use Rattle.ready_links.specs.Links.{LinkState, IsNew}
+use Rattle.outside.specs.Links.{LinkState, IsNew}
 use Rattle.session_run.specs.Calls.{Call, Serves}
 use Rattle.session_run.specs.Ends.{EndsAt}
 use Rattle.session_run.specs.Outs.{bytes_given}
@@ -16,11 +16,12 @@ use Rattle.session_run.specs.declared.ends.InEnd.TheVariants as ended
 use Rattle.session_run.specs.declared.phases.TakeEnd.{TakeEnd}
 use Rattle.session_run.specs.declared.phases.TakeEnd.TheVariants as took
 use Rattle.session_run.specs.SoFar.{asked_for}
-use Rattle.serve_run.specs.Steps.{Step, Joined, calls_of, takes_of, IsAmong}
+use Rattle.serve_run.specs.declared.terms.Terms.{Terms}
+use Rattle.serve_run.specs.Steps.{Step, Joined, Removed, calls_of, takes_of, IsAmong}
 
 -- What became of a link. No session was entered, and the Enter was answered so; or the session of this number was entered, and removed at
 -- once: for want of memory, or because the link could not be watched; or it was served: how its asking ended, if it did, and how its
--- taking ended, if all that was to be written was written or its link had failed. That the taking has not ended is so only where the
+-- taking ended, if all that was to be written was written or its link had failed or was cut. That the taking has not ended is so only where the
 -- loop ended before the link did
 pub data LinkFate : Type 0 where
   TurnedOut : Outcome → LinkFate
@@ -46,11 +47,12 @@ abbrev pub AskingEnds : Option ℕ → Option InEnd → List Call → List Asked
 AskingEnds told None stop asks left = stop ≡ []
 AskingEnds told (Some end) stop asks left = EndsAt told end stop asks left
 
--- all that the takes gave was written; or a first part of it, where the link failed, memory ran out or the loop ended before
+-- all that the takes gave was written; or a first part of it, where the link failed or was cut, memory ran out or the loop ended before
 abbrev pub Wrote : Option TakeEnd → Option Bytes → Option Bytes → Bytes → Type 0
 Wrote None held held' given = AppendsPart held held' given
 Wrote (Some took.WriteFault) held held' given = AppendsPart held held' given
 Wrote (Some took.Memory) held held' given = AppendsPart held held' given
+Wrote (Some took.Late) held held' given = AppendsPart held held' given
 Wrote (Some end) held held' given = Appends held held' given
 
 -- A link was served as the session of a number. Its calls are those of what the bytes that were read of it ask, in order, each once but
@@ -145,3 +147,30 @@ WatchFault cause fate = Unit {0}
 abbrev pub WatchFaults : Type 0 → List LinkRun → Type 0
 WatchFaults cause [] = Unit {0}
 WatchFaults cause (run ∷ runs) = WatchFault cause run.fate × WatchFaults cause runs
+
+-- the server may end a session by itself: there is an idle limit, or the end of the server was asked for
+abbrev pub MayEnd : Terms → Bool → Type 0
+MayEnd terms over = (0 < terms.idle) ⊎ ((terms.until_end ≡ true) × (over ≡ true))
+
+-- where it ended the asking, or cut the link, this holds
+abbrev pub EndCause : Type 0 → Option InEnd → Option TakeEnd → Type 0
+EndCause cause asking taking = (asking ≡ Some ended.Dismissed → cause) × (taking ≡ Some took.Late → cause)
+
+abbrev pub FateCause : Type 0 → LinkFate → Type 0
+FateCause cause (Served n asking taking) = EndCause cause asking taking
+FateCause cause fate = Unit {0}
+
+abbrev pub FateCauses : Type 0 → List LinkRun → Type 0
+FateCauses cause [] = Unit {0}
+FateCauses cause (run ∷ runs) = FateCause cause run.fate × FateCauses cause runs
+
+-- the session of a link that was entered is removed from the hall
+abbrev pub IsRemoved : List Step → LinkFate → Type 0
+IsRemoved steps (TurnedOut o) = Unit {0}
+IsRemoved steps (Starved n) = IsAmong (Removed n) steps
+IsRemoved steps (Unwatched n) = IsAmong (Removed n) steps
+IsRemoved steps (Served n asking taking) = IsAmong (Removed n) steps
+
+abbrev pub AreRemoved : List Step → List LinkRun → Type 0
+AreRemoved steps [] = Unit {0}
+AreRemoved steps (run ∷ runs) = IsRemoved steps run.fate × AreRemoved steps runs

@@ -1,9 +1,8 @@
 -- The steps of a loop: what it asks of the hall, and which of that is a session's.
-use Rattle.std.specs.Prelude.{◌≡◌, ◌==◌, ℕ, zero, suc, ◌+◌, Bool, List, [], ◌∷◌, ◌++◌, map, flat_map, Option, if◌then◌else◌}
+use Rattle.std.specs.Prelude.{◌≡◌, ◌==◌, ℕ, zero, suc, List, [], ◌∷◌, ◌++◌, flat_map, Option, if◌then◌else◌}
 use Rattle.outside.specs.Causes.{next_count}
 use Rattle.world_model.specs.declared.events.Asked.{Asked}
 use Rattle.world_model.specs.declared.events.CallOutcome.{CallOutcome}
-use Rattle.world_model.specs.declared.events.CallOutcome.TheVariants as called
 use Rattle.world_model.specs.declared.events.Event.TheVariants as event
 use Rattle.world_model.specs.declared.events.Outcome.{Outcome}
 use Rattle.world_model.specs.declared.events.Outcome.TheVariants as outcome
@@ -12,13 +11,16 @@ use Rattle.world_model.specs.Seats.{Act}
 use Rattle.session_run.specs.Calls.{Call}
 use Rattle.session_run.specs.Outs.{take_act}
 use Rattle.session_run.specs.Turns.{turn_calls}
-use Rattle.serve_run.specs.Links.{IsTold, tend_acts}
+use Rattle.serve_run.specs.Tends.{IsTold, AreFew, tend_acts, shrink_acts}
 
--- a Tick at a moment and the Rewrites behind it, each answered Ok; the caller of this number, and how the Enter for it was answered; the
--- calls of a session in one turn, at a moment: of these requests so many were answered Ok, and then all or the next one so; a take of a
--- session; its close; its removal
+-- a Tick at a moment and so many Rewrites behind it, each answered Ok; a session of the server's own, which asked at a moment that the
+-- log be rewritten, and was answered so; the same, where the Enter was refused; the caller of this number, and how the Enter for it was
+-- answered; the calls of a session in one turn, at a moment: of these requests so many were answered Ok, and then all or the next one so; a
+-- take of a session; its close; its removal
 pub data Step : Type 0 where
-  Tended : ℕ → Step
+  Tended : ℕ → ℕ → Step
+  Shrunk : ℕ → ℕ → CallOutcome → Step
+  Unshrunk : Outcome → Step
   Joined : ℕ → Outcome → Step
   Called : ℕ → ℕ → List Asked → ℕ → CallOutcome → Step
   Took : ℕ → Outcome → Step
@@ -27,7 +29,9 @@ pub data Step : Type 0 where
 
 -- the entries of a step
 abbrev pub step_acts : Step → List Act
-step_acts (Tended m) = tend_acts m
+step_acts (Tended m n) = tend_acts m n
+step_acts (Shrunk n m c) = shrink_acts n m c
+step_acts (Unshrunk o) = (event.Enter, o) ∷ []
 step_acts (Joined caller o) = (event.Enter, o) ∷ []
 step_acts (Called n m asked served end) = call_acts n m asked served end
 step_acts (Took n o) = take_act n o ∷ []
@@ -69,9 +73,10 @@ abbrev pub behind_callers : ℕ → ℕ → ℕ
 behind_callers from zero = from
 behind_callers from (suc n) = behind_callers (next_count from) n
 
--- the moments of a step are the clock's
+-- the moments of a step are the clock's, and behind a Tick there are few Rewrites
 abbrev pub IsTimely : Option ℕ → Step → Type 0
-IsTimely told (Tended m) = IsTold told m
+IsTimely told (Tended m n) = IsTold told m × AreFew n
+IsTimely told (Shrunk n m c) = IsTold told m
 IsTimely told (Called n m asked served end) = IsTold told m
 IsTimely told step = Unit {0}
 

@@ -1,45 +1,60 @@
--- The words of the command line that ask to serve.
-use Rattle.std.specs.Prelude.{ℕ, Bool, true, not, ◌&&◌, ◌==◌, nat_le, List, [], ◌∷◌, Option, Some, None, Result, Ok, Err, option_map, codes, bytes_eq}
+-- The words of the command line that ask to serve, as clap reads them.
+use Rattle.std.specs.Prelude.{ℕ, Bool, false, ◌&&◌, nat_le, List, Option, Some, None, Result, Ok, Err, codes, bytes_eq, option_and_then}
 use Rattle.std.specs.Prelude.{if◌then◌else◌}
+use Rattle.std.specs.Option.{option_map_or}
 use Rattle.byte_text.specs.Names.{Bytes}
 use Rattle.byte_text.specs.Numbers.{read_natural}
 use Rattle.byte_text.specs.declared.texts.TextFault.{TextFault}
-use Rattle.serve_run.specs.declared.words.TheConstants.{MOST_LINKS}
+use Rattle.clap.specs.Simple.{App, new_app, with_rule}
+use Rattle.clap.specs.Walk.{Row, first_of}
+use Rattle.serve_run.specs.Options.{begins_with, flag_rule, needed_rule, option_rule, rows_taken}
+use Rattle.serve_run.specs.declared.words.ServeWords.{ServeWords}
+use Rattle.serve_run.specs.declared.words.TheConstants.{MOST_LINKS, MOST_IDLE, MOST_SHRINK_AT, SHRINK_AT}
 
--- so many callers are served where the words say nothing else, and at most
-abbrev pub most_links : ℕ
-most_links = MOST_LINKS
-
--- where to listen, and how many callers are served
+-- Where to listen; how many callers are served; behind how many seconds without a request a link is ended, or 0 for never; by how many per
+-- cent the log grows until it is rewritten, or 0 for never; and whether the end of standard input asks for the end.
 pub record Serve : Type 0 where
   pub addr : Bytes
   pub limit : ℕ
+  pub idle : ℕ
+  pub shrink_at : ℕ
+  pub until_end : Bool
 
--- the word does not begin as an option does
-abbrev pub is_address : Bytes → Bool
-is_address [] = true
-is_address (b ∷ bytes) = not (b == 45)
+abbrev pub asked_of : ServeWords → Serve
+asked_of w = record { addr = w.addr.now; limit = w.limit; idle = w.idle; shrink_at = w.shrink_at; until_end = w.until_end }
 
--- a canonical number from 1 to the most
-abbrev pub as_limit : Result ℕ TextFault → Option ℕ
-as_limit (Ok n) = if nat_le 1 n && nat_le n most_links then Some n else None
-as_limit (Err f) = None
+-- `serve ADDR [--sessions N] [--idle SECONDS] [--shrink-at PERCENT] [--until-stdin-ends]`
+unfoldable pub serve_app : App
+serve_app = with_rule (with_rule (with_rule (with_rule (with_rule (new_app (codes "serve"))
+    (needed_rule (codes "addr"))) (option_rule (codes "sessions"))) (option_rule (codes "idle"))) (option_rule (codes "shrink-at")))
+    (flag_rule (codes "until-stdin-ends"))
 
-abbrev pub limit_of : Bytes → Option ℕ
-limit_of word = as_limit (read_natural word)
+-- a canonical number within bounds, or the one that stands for no word
+abbrev pub within : ℕ → ℕ → Result ℕ TextFault → Option ℕ
+within least most (Ok n) = if nat_le least n && nat_le n most then Some n else None
+within least most (Err f) = None
 
--- `serve ADDR`
-abbrev pub served_at : Bytes → Bytes → Option Serve
-served_at word addr = if bytes_eq word (codes "serve") && is_address addr then Some (record { addr = addr; limit = most_links }) else None
+abbrev pub number_of : ℕ → ℕ → ℕ → Option Bytes → Option ℕ
+number_of least most unsaid None = Some unsaid
+number_of least most unsaid (Some word) = within least most (read_natural word)
 
--- `serve ADDR --sessions N`
-abbrev pub served_up_to : Bytes → Bytes → Bytes → Bytes → Option Serve
-served_up_to word addr option number =
-    if bytes_eq word (codes "serve") && is_address addr
-    && bytes_eq option (codes "--sessions") then option_map (λ n. record { addr = addr; limit = n }) (limit_of number) else None
+abbrev pub is_given : Option Bytes → Bool
+is_given word = option_map_or (λ w. bytes_eq w (codes "true")) word false
+
+-- what was found, where each number is one
+abbrev pub serve_in : List Row → Option Serve
+serve_in rows = option_and_then (λ addr. option_and_then (λ limit. option_and_then (λ idle. option_and_then (λ shrink_at. Some (record {
+  addr = addr;
+  limit = limit;
+  idle = idle;
+  shrink_at = shrink_at;
+  until_end = is_given (first_of (codes "until-stdin-ends") rows);
+}))
+    (number_of 0 MOST_SHRINK_AT SHRINK_AT (first_of (codes "shrink-at") rows)))
+    (number_of 1 MOST_IDLE 0 (first_of (codes "idle") rows)))
+    (number_of 1 MOST_LINKS MOST_LINKS (first_of (codes "sessions") rows)))
+    (first_of (codes "addr") rows)
 
 -- what the words ask for, where they ask to serve
 abbrev pub serve_of : List Bytes → Option Serve
-serve_of (word ∷ addr ∷ []) = served_at word addr
-serve_of (word ∷ addr ∷ option ∷ number ∷ []) = served_up_to word addr option number
-serve_of words = None
+serve_of words = if begins_with (codes "serve") words then option_and_then serve_in (rows_taken serve_app words) else None

@@ -2,16 +2,17 @@
 
 ghost use Rattle.std.specs.Prelude.{◌≡◌, ◌≤◌, ◌<◌, ◌+◌, ◌^◌, ◌-◌, ℕ, Option, Bool, true, false, None};
 ghost use Rattle.outside.specs.Causes.{next_count};
-ghost use Rattle.ready_links.specs.Doors.{DoorState};
-ghost use Rattle.ready_links.specs.Links.{IsNew};
+ghost use Rattle.outside.specs.Doors.{DoorState};
+ghost use Rattle.outside.specs.Links.{IsNew};
 ghost use Rattle.serve_run.specs.LoopStates.{Keeps, loop_state};
+ghost use Rattle.serve_run.specs.declared.terms.Terms.{Terms};
 ghost use Rattle.serve_run.specs.LoopEnds.{HasPlace, IsPlaced, LoopTurn};
 
 use crate::marks::AllMarks;
 use crate::tables::{Table, free_place, shut};
 use crate::tends::ServeEnd;
-use outside::Failed;
-use ready_links::{Caller, ReadyDoor, ReadyLink, WaitForLinks};
+use crate::terms::Terms;
+use outside::{Caller, Failed, ReadyDoor, ReadyLink, WaitForLinks};
 use session_run::Session;
 use std::alloc::Global;
 use std::sync::Wait;
@@ -90,8 +91,8 @@ where
     ensures few { counts.new.starved ≤ counts.new.joined }
     ensures joined { counts.new.joined ≡ counts.old.joined + 1 }
     ensures over { counts.new.is_over ≡ counts.old.is_over }
-    ensures keeps { (told : Option ℕ) → (door : DoorState) → IsNew door.links (D.Link.shows link)
-        → Keeps told (loop_state (H.knows seat.old) door (W.shows wait.old) table.old.items
+    ensures keeps { (told : Option ℕ) → (terms : Terms) → (door : DoorState) → IsNew door.links (D.Link.shows link)
+        → Keeps told terms (loop_state (H.knows seat.old) door (W.shows wait.old) table.old.items
         counts.old.joined counts.old.starved counts.old.is_over true)
         (loop_state (H.knows seat.new) (record door { links = next_count door.links }) (W.shows wait.new)
         table.new.items counts.new.joined counts.new.starved counts.new.is_over result) }
@@ -129,17 +130,17 @@ fn let_one_in<H: HallApi, D: ReadyDoor, W: WaitForLinks<D>, R: Wait>(
     table: &mut Table<D::Link>,
     all: &mut AllMarks,
     counts: &mut Counts,
-    limit: u32,
+    terms: Terms,
 ) -> Option<ServeEnd>
 where
     D::Link: Drop,
     requires seat { H.is_of hall.now seat.old }
-    requires room { counts.old.joined < limit }
+    requires room { counts.old.joined < terms.limit }
     requires few { counts.old.starved ≤ counts.old.joined }
     ensures seat { H.is_of hall.now seat.new }
     ensures few { counts.new.starved ≤ counts.new.joined }
-    ensures room { counts.new.joined ≤ limit }
-    ensures turn { (told : Option ℕ) → LoopTurn told limit
+    ensures room { counts.new.joined ≤ terms.limit }
+    ensures turn { (told : Option ℕ) → LoopTurn told terms
         (loop_state (H.knows seat.old) (D.shows door.old) (W.shows wait.old) table.old.items
         counts.old.joined counts.old.starved counts.old.is_over true)
         (loop_state (H.knows seat.new) (D.shows door.new) (W.shows wait.new) table.new.items
@@ -176,27 +177,27 @@ pub(crate) fn let_in<H: HallApi, D: ReadyDoor, W: WaitForLinks<D>, R: Wait>(
     table: &mut Table<D::Link>,
     all: &mut AllMarks,
     counts: &mut Counts,
-    limit: u32,
+    terms: Terms,
 ) -> Option<ServeEnd>
 where
     D::Link: Drop,
     requires seat { H.is_of hall.now seat.old }
-    requires room { counts.old.joined ≤ limit }
+    requires room { counts.old.joined ≤ terms.limit }
     requires few { counts.old.starved ≤ counts.old.joined }
     ensures seat { H.is_of hall.now seat.new }
     ensures few { counts.new.starved ≤ counts.new.joined }
-    ensures room { counts.new.joined ≤ limit }
-    ensures turn { (told : Option ℕ) → LoopTurn told limit
+    ensures room { counts.new.joined ≤ terms.limit }
+    ensures turn { (told : Option ℕ) → LoopTurn told terms
         (loop_state (H.knows seat.old) (D.shows door.old) (W.shows wait.old) table.old.items
         counts.old.joined counts.old.starved counts.old.is_over true)
         (loop_state (H.knows seat.new) (D.shows door.new) (W.shows wait.new) table.new.items
         counts.new.joined counts.new.starved counts.new.is_over true) result }
 {
     for _ in 0..MOST_JOINED {
-        if counts.is_over || counts.joined >= limit || !all.may_accept {
+        if counts.is_over || all.is_ending() || counts.joined >= terms.limit || !all.may_accept {
             return None;
         }
-        let end = let_one_in(rt, alloc, hall, seat, door, wait, table, all, counts, limit);
+        let end = let_one_in(rt, alloc, hall, seat, door, wait, table, all, counts, terms);
         if let Some(end) = end {
             return Some(end);
         }

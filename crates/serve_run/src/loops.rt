@@ -3,20 +3,23 @@
 ghost use Rattle.std.specs.Prelude.{◌≡◌, ◌≤◌, ◌<◌, ℕ, Option, Some, Bool, true, false, [], length, IfOk};
 ghost use Rattle.world_data.specs.Limits.{max_moment, take_frames};
 ghost use Rattle.world_model.specs.Seats.{Knows};
-ghost use Rattle.ready_links.specs.Doors.{DoorState};
-ghost use Rattle.ready_links.specs.Waits.{Tries};
-ghost use Rattle.serve_run.specs.Links.{IsTold};
+ghost use Rattle.outside.specs.Doors.{DoorState};
+ghost use Rattle.outside.specs.Waits.{Waits};
+ghost use Rattle.serve_run.specs.Tends.{IsTold};
 ghost use Rattle.serve_run.specs.Loops.{ServesReady, around};
 ghost use Rattle.serve_run.specs.LoopStates.{Keeps, KeepsShut, loop_state};
-ghost use Rattle.serve_run.specs.LoopEnds.{LoopTurn, TendsTable};
+ghost use Rattle.serve_run.specs.declared.terms.Terms.{Terms};
+ghost use Rattle.serve_run.specs.LoopEnds.{LoopTurn, TendsTable, IsLastOf};
 
+use crate::early_ends::end_early;
 use crate::joins::{Counts, let_in};
 use crate::marks::AllMarks;
+use crate::shrinks::shrink_if_due;
 use crate::tables::{Table, all_in, all_out, none_open, shut_all, shut_over};
 use crate::tends::{ServeEnd, Served, tick_and_rewrite};
+use crate::terms::Terms;
 use byte_text::NoMemory;
-use outside::{Clock, Failed};
-use ready_links::{Named, ReadyDoor, ReadyLink, WaitForLinks};
+use outside::{Clock, Failed, Named, ReadyDoor, ReadyLink, WaitForLinks};
 use std::alloc::Global;
 use std::sync::Wait;
 use world_model::{ChangedSessions, Frames, HallApi};
@@ -49,7 +52,7 @@ impl Work {
 fn look<D: ReadyDoor, W: WaitForLinks<D>>(wait: &mut W, all: &mut AllMarks) -> Result<(), Failed>
 where
     D::Link: Drop,
-    ensures { Tries (W.shows wait.old) (W.shows wait.new) result }
+    ensures { Waits (W.shows wait.old) (W.shows wait.new) result }
 {
     let count = wait.wait(all.patience())?;
     all.looked(count);
@@ -57,16 +60,18 @@ where
         match wait.named(nth) {
             Some(Named::Link(token)) => all.name(token as usize),
             Some(Named::Door) => all.may_accept = true,
-            Some(Named::Waker) => {}
+            Some(Named::Waker | Named::End) => {}
             None => break,
         }
     }
     Ok(())
 }
 
-// Makes a Tick and the Rewrites behind it, where one is due. The end that they bring.
+// Makes a Tick and the Rewrites behind it, where one is due, and asks that the log be rewritten, where it has grown. The
+// end that this brings.
 fn tend_if_due<H: HallApi, C: Clock, R: Wait>(
     rt: &R,
+    alloc: Global,
     hall: &H,
     seat: &mut H::Seat,
     clock: &C,
@@ -77,16 +82,20 @@ fn tend_if_due<H: HallApi, C: Clock, R: Wait>(
     requires seat { H.is_of hall.now seat.old }
     requires moment { moment ≤ max_moment }
     ensures seat { H.is_of hall.now seat.new }
-    ensures tends { (told : Option ℕ) → IsTold told moment
-        → TendsTable told (H.knows seat.old) (H.knows seat.new) result.0 }
+    ensures tends { (told : Option ℕ) → (terms : Terms) → IsTold told moment
+        → TendsTable told terms (H.knows seat.old) (H.knows seat.new) result.0 }
 {
     if !all.is_tick_due(moment) {
         return (None, touched);
     }
-    let (end, touched) = tick_and_rewrite(rt, hall, seat, moment, touched);
-    all.tended(moment, clock.now());
+    let steps = all.pace.steps();
+    let (end, log, touched) = tick_and_rewrite(rt, hall, seat, moment, steps, touched);
+    all.pace.tended(clock.now(), log);
     all.touch(&touched);
-    (end, touched)
+    match end {
+        Some(end) => (Some(end), touched),
+        None => shrink_if_due(rt, alloc, hall, seat, moment, &mut all.pace, touched),
+    }
 }
 
 // What a round does for those who are served: the calls of all, and then the takes of all, so that one commit serves the
@@ -113,12 +122,21 @@ where
     ensures some { 0 < length work.new.block.items }
     ensures bare { work.new.frames.list ≡ [] }
     ensures places { work.new.frames.places ≡ take_frames }
-    ensures keeps { (told : Option ℕ) → IsTold told moment → KeepsShut told (H.knows seat.old) (H.knows seat.new)
+    ensures keeps { (told : Option ℕ) → (terms : Terms) → IsTold told moment → KeepsShut told terms (H.knows seat.old) (H.knows seat.new)
         (W.shows wait.old) (W.shows wait.new) table.old.items table.new.items result.0 }
 {
     let touched = all_in(rt, hall, seat, moment, table, all, &mut work.block, touched);
     all_out(rt, hall, seat, table, all, &mut work.frames);
     (shut_over(rt, hall, seat, wait, table, all), touched)
+}
+
+// Whether no caller comes any more, so that the loop ends with the last link.
+fn is_last<D: ReadyDoor, W: WaitForLinks<D>>(wait: &W, counts: &Counts, terms: Terms) -> bool
+where
+    D::Link: Drop,
+    ensures { result ≡ true → IsLastOf terms (W.shows wait.now).over counts.now.joined counts.now.is_over }
+{
+    counts.is_over || counts.joined == terms.limit || (terms.until_end && wait.is_over())
 }
 
 // One round. The end that it brings.
@@ -135,7 +153,7 @@ fn round<H: HallApi, D: ReadyDoor, C: Clock, W: WaitForLinks<D>, R: Wait>(
     counts: &mut Counts,
     work: &mut Work,
     touched: ChangedSessions,
-    limit: u32,
+    terms: Terms,
 ) -> (Option<ServeEnd>, ChangedSessions)
 where
     D::Link: Drop,
@@ -143,15 +161,15 @@ where
     requires some { 0 < length work.old.block.items }
     requires bare { work.old.frames.list ≡ [] }
     requires places { work.old.frames.places ≡ take_frames }
-    requires room { counts.old.joined ≤ limit }
+    requires room { counts.old.joined ≤ terms.limit }
     requires few { counts.old.starved ≤ counts.old.joined }
     ensures seat { H.is_of hall.now seat.new }
     ensures some { 0 < length work.new.block.items }
     ensures bare { work.new.frames.list ≡ [] }
     ensures places { work.new.frames.places ≡ take_frames }
-    ensures room { counts.new.joined ≤ limit }
+    ensures room { counts.new.joined ≤ terms.limit }
     ensures few { counts.new.starved ≤ counts.new.joined }
-    ensures turn { LoopTurn (C.told clock.now) limit
+    ensures turn { LoopTurn (C.told clock.now) terms
         (loop_state (H.knows seat.old) (D.shows door.old) (W.shows wait.old) table.old.items
         counts.old.joined counts.old.starved counts.old.is_over true)
         (loop_state (H.knows seat.new) (D.shows door.new) (W.shows wait.new) table.new.items
@@ -161,11 +179,12 @@ where
         return (Some(ServeEnd::DoorFault), touched);
     }
     let moment = clock.now();
-    let (tended, touched) = tend_if_due(rt, hall, seat, clock, moment, all, touched);
+    let (tended, touched) = tend_if_due(rt, alloc, hall, seat, clock, moment, all, touched);
     if let Some(end) = tended {
         return (Some(end), touched);
     }
-    let came = let_in(rt, alloc, hall, seat, door, wait, table, all, counts, limit);
+    end_early(wait, table, all, terms);
+    let came = let_in(rt, alloc, hall, seat, door, wait, table, all, counts, terms);
     if let Some(end) = came {
         return (Some(end), touched);
     }
@@ -173,7 +192,7 @@ where
     if !goes_on {
         return (Some(ServeEnd::Memory), touched);
     }
-    if (counts.is_over || counts.joined == limit) && none_open(table) {
+    if is_last(wait, counts, terms) && none_open(table) {
         return (Some(ServeEnd::Done), touched);
     }
     (None, touched)
@@ -192,7 +211,7 @@ fn serve_with<H: HallApi, D: ReadyDoor, C: Clock, W: WaitForLinks<D>, R: Wait>(
     counts: &mut Counts,
     work: &mut Work,
     touched: ChangedSessions,
-    limit: u32,
+    terms: Terms,
 ) -> ServeEnd
 where
     D::Link: Drop,
@@ -200,21 +219,21 @@ where
     requires some { 0 < length work.old.block.items }
     requires bare { work.old.frames.list ≡ [] }
     requires places { work.old.frames.places ≡ take_frames }
-    requires room { counts.old.joined ≤ limit }
+    requires room { counts.old.joined ≤ terms.limit }
     requires few { counts.old.starved ≤ counts.old.joined }
     ensures seat { H.is_of hall.now seat.new }
-    ensures room { counts.new.joined ≤ limit }
-    ensures turn { LoopTurn (C.told clock.now) limit
+    ensures room { counts.new.joined ≤ terms.limit }
+    ensures turn { LoopTurn (C.told clock.now) terms
         (loop_state (H.knows seat.old) (D.shows door.old) (W.shows wait.old) table.old.items
         counts.old.joined counts.old.starved counts.old.is_over true)
         (loop_state (H.knows seat.new) (D.shows door.new) (W.shows wait.new) table.new.items
         counts.new.joined counts.new.starved counts.new.is_over true) (Some result) }
 {
     let mut touched = touched;
-    let mut all = AllMarks::new(alloc);
+    let mut all = AllMarks::new(alloc, terms);
     for _ in rt.forever() {
         let (end, back) = round(
-            rt, alloc, hall, seat, door, clock, wait, table, &mut all, counts, work, touched, limit,
+            rt, alloc, hall, seat, door, clock, wait, table, &mut all, counts, work, touched, terms,
         );
         touched = back;
         if let Some(end) = end {
@@ -235,16 +254,16 @@ fn serve_up_to<H: HallApi, D: ReadyDoor, C: Clock, W: WaitForLinks<D>, R: Wait>(
     wait: &mut W,
     table: &mut Table<D::Link>,
     counts: &mut Counts,
-    limit: u32,
+    terms: Terms,
 ) -> ServeEnd
 where
     D::Link: Drop,
     requires seat { H.is_of hall.now seat.old }
-    requires room { counts.old.joined ≤ limit }
+    requires room { counts.old.joined ≤ terms.limit }
     requires few { counts.old.starved ≤ counts.old.joined }
     ensures seat { H.is_of hall.now seat.new }
-    ensures room { counts.new.joined ≤ limit }
-    ensures turn { LoopTurn (C.told clock.now) limit
+    ensures room { counts.new.joined ≤ terms.limit }
+    ensures turn { LoopTurn (C.told clock.now) terms
         (loop_state (H.knows seat.old) (D.shows door.old) (W.shows wait.old) table.old.items
         counts.old.joined counts.old.starved counts.old.is_over true)
         (loop_state (H.knows seat.new) (D.shows door.new) (W.shows wait.new) table.new.items
@@ -257,7 +276,7 @@ where
         return ServeEnd::Memory;
     };
     serve_with(
-        rt, alloc, hall, seat, door, clock, wait, table, counts, &mut work, touched, limit,
+        rt, alloc, hall, seat, door, clock, wait, table, counts, &mut work, touched, terms,
     )
 }
 
@@ -270,9 +289,9 @@ fn end_loop<D: ReadyDoor, W: WaitForLinks<D>>(
 where
     D::Link: Drop,
     ensures done { end ≡ ServeEnd.Done → W.shows wait.new ≡ W.shows wait.old }
-    ensures rest { (end ≡ ServeEnd.Done → ⊥) → (told : Option ℕ) → (k : Knows) → (d : DoorState) → (joined starved : ℕ)
+    ensures rest { (end ≡ ServeEnd.Done → ⊥) → (told : Option ℕ) → (terms : Terms) → (k : Knows) → (d : DoorState) → (joined starved : ℕ)
         → (is_over goes_on : Bool)
-        → Keeps told (loop_state k d (W.shows wait.old) table.old.items joined starved is_over goes_on)
+        → Keeps told terms (loop_state k d (W.shows wait.old) table.old.items joined starved is_over goes_on)
         (loop_state k d (W.shows wait.new) [] joined starved is_over false) }
     ensures faults { (W.shows wait.new).faults ≡ (W.shows wait.old).faults }
 {
@@ -282,8 +301,8 @@ where
     shut_all(wait, table);
 }
 
-/// Serves links over readiness, up to `limit` of them or an end, and shuts them all.
-pub fn serve_loop<H: HallApi, D: ReadyDoor, C: Clock, W: WaitForLinks<D>, R: Wait>(
+/// Serves links over readiness, as the terms ask, and shuts them all.
+pub(crate) fn serve_loop<H: HallApi, D: ReadyDoor, C: Clock, W: WaitForLinks<D>, R: Wait>(
     rt: &R,
     alloc: Global,
     hall: &H,
@@ -291,13 +310,13 @@ pub fn serve_loop<H: HallApi, D: ReadyDoor, C: Clock, W: WaitForLinks<D>, R: Wai
     door: &mut D,
     clock: &C,
     wait: &mut W,
-    limit: u32,
+    terms: Terms,
 ) -> Served
 where
     D::Link: Drop,
     requires seat { H.is_of hall.now seat.old }
     ensures seat { H.is_of hall.now seat.new }
-    ensures serves { ServesReady (C.told clock.now) limit
+    ensures serves { ServesReady (C.told clock.now) terms
         (around (H.knows seat.old) (D.shows door.old) (W.shows wait.old))
         (around (H.knows seat.new) (D.shows door.new) (W.shows wait.new))
         result.joined result.starved result.end }
@@ -318,7 +337,7 @@ where
         wait,
         &mut table,
         &mut counts,
-        limit,
+        terms,
     );
     end_loop(wait, &mut table, end);
     Served {

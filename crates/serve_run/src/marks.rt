@@ -3,19 +3,18 @@
 //! Nothing is claimed of it, as nothing is claimed of readiness: a mark that is lost is a caller who waits for ever, and
 //! one that is too many costs a call that answers Later. So it stands beside the sessions and not in them.
 
+use crate::paces::Pace;
+use crate::terms::Terms;
 use byte_text::NoMemory;
 use std::alloc::Global;
 use std::collections::BTreeMap;
 use world_model::ChangedSessions;
 
-// Milliseconds from one tick to the next.
-const TICK_MILLIS: u32 = 100;
+// So many milliseconds after the end was asked for, links are cut that are not through.
+const END_MILLIS: u64 = 5_000;
 
-// The same while the log is rewritten and callers are served, and how long somebody is waited for then. Where nobody
-// comes, one tick follows the other.
-const REWRITING_MILLIS: u32 = 20;
-
-const GLANCE_MILLIS: u32 = 1;
+// So long a link may take nothing of what waits for it, where there is an idle limit.
+const WRITE_MILLIS: u64 = 10_000;
 
 /// What is to be tried for a session.
 #[derive(Clone, Copy, Debug, PartialEq, Eq)]
@@ -30,17 +29,23 @@ pub(crate) struct Marks {
     pub(crate) is_due: bool,
     /// The hall was told to close the session.
     pub(crate) is_closed: bool,
+    /// Something was read of the link, or given to it.
+    pub(crate) is_moved: bool,
+    // When that was so last.
+    since: u64,
 }
 
 impl Marks {
-    // Of a session that came, all is tried.
-    fn of_new() -> Marks {
+    // Of a session that came at a moment, all is tried.
+    fn of_new(since: u64) -> Marks {
         Marks {
             may_read: true,
             is_filled: false,
             may_write: true,
             is_due: false,
             is_closed: false,
+            is_moved: false,
+            since,
         }
     }
 
@@ -52,7 +57,32 @@ impl Marks {
             may_write: false,
             is_due: false,
             is_closed: false,
+            is_moved: false,
+            since: 0,
         }
+    }
+}
+
+/// Which end by the server a session has come to.
+#[derive(Clone, Copy, Debug, PartialEq, Eq)]
+pub(crate) struct Early {
+    // The end of the server was asked for.
+    is_ending: bool,
+    // It stood still for as long as it may.
+    is_idle: bool,
+    // It is not waited for any more.
+    is_late: bool,
+}
+
+impl Early {
+    /// Whether its asking ends, where something waits to be written or not.
+    pub(crate) fn dismisses(&self, waits: bool) -> bool {
+        self.is_ending || (self.is_idle && !waits)
+    }
+
+    /// Whether its link is cut.
+    pub(crate) fn cuts(&self, waits: bool) -> bool {
+        self.is_late && (self.is_ending || waits)
     }
 }
 
@@ -65,27 +95,31 @@ pub(crate) struct AllMarks {
     pub(crate) may_accept: bool,
     /// There is something to do without a wait.
     pub(crate) is_busy: bool,
-    // Nobody was named by the last wait, and nothing was left to be done.
-    is_idle: bool,
-    // The steps behind the last tick took a while, so the log is being rewritten.
-    is_rewriting: bool,
-    last_tick: Option<u64>,
-    // How long it is to the next tick.
-    to_tick: u32,
+    /// When the next tick is due.
+    pub(crate) pace: Pace,
+    // Milliseconds that a link may stand still; 0 for any number.
+    idle: u64,
+    // The moment of the round.
+    now: u64,
+    // Who stands still is looked for in this round.
+    is_look_due: bool,
+    // Since when the server is to end.
+    ending: Option<u64>,
 }
 
 impl AllMarks {
     /// Of nobody; the door is looked at first.
-    pub(crate) fn new(alloc: Global) -> AllMarks {
+    pub(crate) fn new(alloc: Global, terms: Terms) -> AllMarks {
         AllMarks {
             by_place: Vec::new(alloc),
             places: BTreeMap::new(alloc),
             may_accept: true,
             is_busy: false,
-            is_idle: false,
-            is_rewriting: false,
-            last_tick: None,
-            to_tick: 0,
+            pace: Pace::new(terms.shrink_at),
+            idle: u64::from(terms.idle) * 1000,
+            now: 0,
+            is_look_due: false,
+            ending: None,
         }
     }
 
@@ -93,61 +127,66 @@ impl AllMarks {
     pub(crate) fn patience(&self) -> u32 {
         if self.is_busy {
             0
-        } else if self.is_rewriting {
-            GLANCE_MILLIS
         } else {
-            self.to_tick
+            self.pace.patience()
         }
     }
 
     /// So many were named by a wait.
     pub(crate) fn looked(&mut self, count: usize) {
-        self.is_idle = count == 0 && !self.is_busy;
+        self.pace.looked(count == 0 && !self.is_busy);
         self.is_busy = false;
     }
 
-    // Milliseconds from the last tick to the next.
-    fn between_ticks(&self) -> u32 {
-        if !self.is_rewriting {
-            TICK_MILLIS
-        } else if self.is_idle {
-            0
-        } else {
-            REWRITING_MILLIS
-        }
-    }
-
-    /// A tick's steps of rewriting began and ended at these moments. A step takes microseconds where there is nothing to
-    /// rewrite, so those that took a millisecond have copied something.
-    pub(crate) fn tended(&mut self, began: u64, ended: u64) {
-        self.is_rewriting = ended > began;
-        self.last_tick = Some(ended);
-    }
-
-    /// Whether a tick is due at this moment; it is made then. A clock that was set back is followed. A door that had no
-    /// means to let a caller in does not name him again, so it is looked at then.
+    /// Whether a tick is due at this moment; it is made then. A door that had no means to let a caller in does not name
+    /// him again, so it is looked at then.
     pub(crate) fn is_tick_due(&mut self, moment: u64) -> bool {
-        let between = self.between_ticks();
-        let since = match self.last_tick {
-            Some(last) if last <= moment => moment - last,
-            _ => u64::from(between),
-        };
-        let left = u64::from(between).saturating_sub(since);
-        if left > 0 {
-            self.to_tick = u32::try_from(left).unwrap_or(between);
-            return false;
+        let is_due = self.pace.is_tick_due(moment);
+        self.may_accept = self.may_accept || is_due;
+        self.now = moment;
+        self.is_look_due = is_due;
+        is_due
+    }
+
+    /// Whether it is to be looked who stands still. That is so once a tick.
+    pub(crate) fn is_look_due(&self) -> bool {
+        self.is_look_due
+    }
+
+    /// The end of the server was asked for.
+    pub(crate) fn end(&mut self) {
+        if self.ending.is_none() {
+            self.ending = Some(self.now);
         }
-        self.last_tick = Some(moment);
-        self.to_tick = TICK_MILLIS;
-        self.may_accept = true;
-        true
+    }
+
+    /// Whether callers are let in no more.
+    pub(crate) fn is_ending(&self) -> bool {
+        self.ending.is_some()
+    }
+
+    /// Which end by the server the session of a place has come to.
+    pub(crate) fn early(&self, place: usize) -> Early {
+        let stood = self.now.saturating_sub(self.at(place).since);
+        match self.ending {
+            Some(since) => Early {
+                is_ending: true,
+                is_idle: true,
+                is_late: self.now.saturating_sub(since) >= END_MILLIS,
+            },
+            None => Early {
+                is_ending: false,
+                is_idle: stood >= self.idle,
+                is_late: stood >= WRITE_MILLIS,
+            },
+        }
     }
 
     /// A session came to a place.
     pub(crate) fn add(&mut self, place: usize, session: u32) -> Result<(), NoMemory> {
         if place < self.by_place.len() {
-            self.by_place[place] = Marks::of_new();
-        } else if self.by_place.push(Marks::of_new()).is_err() {
+            self.by_place[place] = Marks::of_new(self.now);
+        } else if self.by_place.push(Marks::of_new(self.now)).is_err() {
             return Err(NoMemory);
         }
         match self.places.insert(session, place) {
@@ -172,7 +211,16 @@ impl AllMarks {
     /// The marks of a place are these.
     pub(crate) fn put(&mut self, place: usize, marks: Marks) {
         if place < self.by_place.len() {
-            self.by_place[place] = marks;
+            let since = if marks.is_moved {
+                self.now
+            } else {
+                marks.since
+            };
+            self.by_place[place] = Marks {
+                is_moved: false,
+                since,
+                ..marks
+            };
         }
     }
 

@@ -9,12 +9,29 @@ ghost use Rattle.serve_run.specs.LoopServes.{ServesLoop};
 use crate::ends::{DOOR_FAULT, OUT_OF_MEMORY, end};
 use crate::loops::serve_loop;
 use crate::serves::{finish, listening};
+use crate::terms::Terms;
 use crate::words::ServeWords;
-use outside::{Clock, Failed, Sink, write_all};
-use ready_links::{ReadyDoor, WaitForLinks};
+use outside::{Clock, Failed, ReadyDoor, Sink, WaitForLinks, write_all};
 use std::alloc::Global;
 use std::sync::Wait;
 use world_model::{HallApi, HallSplit};
+
+// What the words ask of the loop.
+fn terms_of(words: &ServeWords<'_>) -> Terms
+    ensures { result ≡ record {
+      limit = words.now.limit;
+      idle = words.now.idle;
+      shrink_at = words.now.shrink_at;
+      until_end = words.now.until_end;
+    } }
+{
+    Terms {
+        limit: words.limit,
+        idle: words.idle,
+        shrink_at: words.shrink_at,
+        until_end: words.until_end,
+    }
+}
 
 /// Opens the door at the address, serves callers in a loop over readiness up to the limit or an end, and answers the
 /// status. Each link that came is shut at the end, and the one that waits shows each as it was then.
@@ -32,7 +49,13 @@ pub fn serve_ready<H: HallSplit, K: Sink, D: ReadyDoor, C: Clock, W: WaitForLink
 where
     D::Link: Drop,
     requires seat { H.HallApi.is_of hall.now seat.old }
-    ensures serves { ServesLoop (C.told clock.now) (record { addr = asked.entry.addr.now; limit = asked.entry.limit })
+    ensures serves { ServesLoop (C.told clock.now) (record {
+      addr = asked.entry.addr.now;
+      limit = asked.entry.limit;
+      idle = asked.entry.idle;
+      shrink_at = asked.entry.shrink_at;
+      until_end = asked.entry.until_end;
+    })
         (around (H.HallApi.knows seat.old) (D.shows door.old) (W.shows wait.old))
         (around (H.HallApi.knows seat.new) (D.shows door.new) (W.shows wait.new))
         (K.held sink.old) (K.held sink.new) result }
@@ -59,10 +82,16 @@ where
     if let Err(Failed) = wait.watch_door(door) {
         return end(sink, 8, DOOR_FAULT);
     }
+    if asked.until_end {
+        if let Err(Failed) = wait.watch_end() {
+            return end(sink, 8, DOOR_FAULT);
+        }
+    }
     if let Err(Failed) = write_all(sink, line.bytes()) {
         return 4;
     }
-    let done = serve_loop(rt, alloc, hall, seat, door, clock, wait, asked.limit);
+    let terms = terms_of(&asked);
+    let done = serve_loop(rt, alloc, hall, seat, door, clock, wait, terms);
     hall.seen(seat);
     finish(alloc, sink, done)
 }

@@ -8,20 +8,27 @@ ghost use Rattle.std.specs.Prelude.{◌≡◌, ◌≤◌, ◌<◌, ℕ, Option, 
 ghost use Rattle.world_data.specs.Limits.{max_moment, take_frames};
 ghost use Rattle.world_model.specs.Seats.{Knows};
 ghost use Rattle.session_run.specs.Sessions.{WantsTurn};
-ghost use Rattle.serve_run.specs.Links.{IsTold};
-ghost use Rattle.serve_run.specs.SessionSteps.{StepsSession};
+ghost use Rattle.serve_run.specs.Tends.{IsTold};
+ghost use Rattle.serve_run.specs.SessionSteps.{StepsOn};
 
 use crate::marks::{AllMarks, Marks};
-use ready_links::{Got, ReadyLink, Sent};
+use outside::{Got, ReadyLink, Sent};
 use session_run::Session;
 use std::sync::Wait;
-use world_model::{ChangedSessions, Frames, HallApi, Taken};
+use world_model::{CallOutcome, ChangedSessions, Frames, HallApi, Taken};
+
+// The turns of one session in a round. Each has at most 64 requests, so that their replies fill a session's queue in the
+// hall and no more.
+const MOST_TURNS: u32 = 16;
+
+// The takes of one session in a round: as many as those replies need, and the one that finds no more.
+const MOST_TAKES: u32 = 17;
 
 // Reads a session once, where it may. A read that does not fill the block has most likely all that came, so the next one
 // can wait.
 fn read_once<K: ReadyLink + Drop>(session: &mut Session<K>, marks: &mut Marks, block: &mut [u8])
     requires some { 0 < length block.old }
-    ensures steps { (told : Option ℕ) → (k : Knows) → StepsSession told k k session.old session.new }
+    ensures steps { (told : Option ℕ) → (k : Knows) → StepsOn told k k session.old session.new }
     ensures block { length block.new ≡ length block.old }
 {
     let room = block.len();
@@ -30,7 +37,10 @@ fn read_once<K: ReadyLink + Drop>(session: &mut Session<K>, marks: &mut Marks, b
     }
     let got = session.on_readable(block);
     match got {
-        Ok(Got::Bytes(count)) => marks.is_filled = count == room,
+        Ok(Got::Bytes(count)) => {
+            marks.is_filled = count == room;
+            marks.is_moved = true;
+        }
         _ => {
             marks.may_read = false;
             marks.is_filled = false;
@@ -38,7 +48,7 @@ fn read_once<K: ReadyLink + Drop>(session: &mut Session<K>, marks: &mut Marks, b
     }
 }
 
-// Makes the calls of a session's requests.
+// Makes the calls of a session's requests. Whether each was answered Ok.
 fn ask<H: HallApi, K: ReadyLink + Drop, R: Wait>(
     rt: &R,
     hall: &H,
@@ -46,21 +56,52 @@ fn ask<H: HallApi, K: ReadyLink + Drop, R: Wait>(
     moment: u64,
     session: &mut Session<K>,
     touched: ChangedSessions,
-) -> ChangedSessions
+) -> (bool, ChangedSessions)
     requires seat { H.is_of hall.now seat.old }
     requires moment { moment ≤ max_moment }
     requires ready { WantsTurn session.old }
     ensures seat { H.is_of hall.now seat.new }
     ensures steps { (told : Option ℕ) → IsTold told moment
-        → StepsSession told (H.knows seat.old) (H.knows seat.new) session.old session.new }
+        → StepsOn told (H.knows seat.old) (H.knows seat.new) session.old session.new }
 {
     let asked = session.move_asked();
     let (answers, asked, touched) = hall.calls(rt, seat, session.number(), moment, asked, touched);
     session.on_answered(asked, answers);
+    (matches!(answers.end, CallOutcome::Ok), touched)
+}
+
+// Makes the calls of the requests that wait, some turns of them, up to the first that is not answered Ok.
+fn ask_all<H: HallApi, K: ReadyLink + Drop, R: Wait>(
+    rt: &R,
+    hall: &H,
+    seat: &mut H::Seat,
+    moment: u64,
+    session: &mut Session<K>,
+    all: &mut AllMarks,
+    touched: ChangedSessions,
+) -> ChangedSessions
+    requires seat { H.is_of hall.now seat.old }
+    requires moment { moment ≤ max_moment }
+    ensures seat { H.is_of hall.now seat.new }
+    ensures steps { (told : Option ℕ) → IsTold told moment
+        → StepsOn told (H.knows seat.old) (H.knows seat.new) session.old session.new }
+{
+    let mut touched = touched;
+    for _ in 0..MOST_TURNS {
+        if !session.wants_turn() {
+            return touched;
+        }
+        let (goes_on, back) = ask(rt, hall, seat, moment, session, touched);
+        all.touch(&back);
+        touched = back;
+        if !goes_on {
+            return touched;
+        }
+    }
     touched
 }
 
-/// The first half of a round: what came is read, and one turn of calls is made.
+/// The first half of a round: what came is read, and the calls of what it asks are made.
 pub(crate) fn step_in<H: HallApi, K: ReadyLink + Drop, R: Wait>(
     rt: &R,
     hall: &H,
@@ -77,7 +118,7 @@ pub(crate) fn step_in<H: HallApi, K: ReadyLink + Drop, R: Wait>(
     requires some { 0 < length block.old }
     ensures seat { H.is_of hall.now seat.new }
     ensures steps { (told : Option ℕ) → IsTold told moment
-        → StepsSession told (H.knows seat.old) (H.knows seat.new) session.old session.new }
+        → StepsOn told (H.knows seat.old) (H.knows seat.new) session.old session.new }
     ensures block { length block.new ≡ length block.old }
 {
     let mut marks = all.at(place);
@@ -88,9 +129,7 @@ pub(crate) fn step_in<H: HallApi, K: ReadyLink + Drop, R: Wait>(
     }
     marks.is_due = true;
     all.put(place, marks);
-    let touched = ask(rt, hall, seat, moment, session, touched);
-    all.touch(&touched);
-    touched
+    ask_all(rt, hall, seat, moment, session, all, touched)
 }
 
 // Takes a session's frames once, where there may be some.
@@ -109,7 +148,7 @@ fn take_once<H: HallApi, K: ReadyLink + Drop, R: Wait>(
     ensures bare { frames.new.list ≡ [] }
     ensures places { frames.new.places ≡ take_frames }
     ensures steps { (told : Option ℕ)
-        → StepsSession told (H.knows seat.old) (H.knows seat.new) session.old session.new }
+        → StepsOn told (H.knows seat.old) (H.knows seat.new) session.old session.new }
 {
     if !marks.is_due || !session.wants_take() {
         return;
@@ -118,6 +157,7 @@ fn take_once<H: HallApi, K: ReadyLink + Drop, R: Wait>(
     session.on_taken(taken, frames);
     frames.clear();
     marks.is_due = gave_some(taken);
+    marks.is_moved = marks.is_moved || marks.is_due;
 }
 
 // Whether there may be more frames behind a take.
@@ -127,13 +167,14 @@ fn gave_some(taken: Taken) -> bool {
 
 // Writes a session's link once, where it may.
 fn write_once<K: ReadyLink + Drop>(session: &mut Session<K>, marks: &mut Marks)
-    ensures steps { (told : Option ℕ) → (k : Knows) → StepsSession told k k session.old session.new }
+    ensures steps { (told : Option ℕ) → (k : Knows) → StepsOn told k k session.old session.new }
 {
     if !marks.may_write || !session.wants_to_write() {
         return;
     }
     let sent = session.on_writable();
     marks.may_write = matches!(sent, Ok(Sent::Bytes(_)));
+    marks.is_moved = marks.is_moved || marks.may_write;
 }
 
 // Takes once and writes once.
@@ -152,10 +193,36 @@ fn give_once<H: HallApi, K: ReadyLink + Drop, R: Wait>(
     ensures bare { frames.new.list ≡ [] }
     ensures places { frames.new.places ≡ take_frames }
     ensures steps { (told : Option ℕ)
-        → StepsSession told (H.knows seat.old) (H.knows seat.new) session.old session.new }
+        → StepsOn told (H.knows seat.old) (H.knows seat.new) session.old session.new }
 {
     take_once(rt, hall, seat, session, marks, frames);
     write_once(session, marks);
+}
+
+// Takes and writes as long as there may be frames and the link takes them.
+fn give_all<H: HallApi, K: ReadyLink + Drop, R: Wait>(
+    rt: &R,
+    hall: &H,
+    seat: &mut H::Seat,
+    session: &mut Session<K>,
+    marks: &mut Marks,
+    frames: &mut Frames,
+)
+    requires seat { H.is_of hall.now seat.old }
+    requires bare { frames.old.list ≡ [] }
+    requires places { frames.old.places ≡ take_frames }
+    ensures seat { H.is_of hall.now seat.new }
+    ensures bare { frames.new.list ≡ [] }
+    ensures places { frames.new.places ≡ take_frames }
+    ensures steps { (told : Option ℕ)
+        → StepsOn told (H.knows seat.old) (H.knows seat.new) session.old session.new }
+{
+    for _ in 0..MOST_TAKES {
+        give_once(rt, hall, seat, session, marks, frames);
+        if !(marks.is_due && session.wants_take()) {
+            return;
+        }
+    }
 }
 
 // Tells the hall to close the session, where its asking has ended and the hall was not told yet.
@@ -169,7 +236,7 @@ fn close_once<H: HallApi, K: ReadyLink + Drop, R: Wait>(
     requires seat { H.is_of hall.now seat.old }
     ensures seat { H.is_of hall.now seat.new }
     ensures steps { (told : Option ℕ)
-        → StepsSession told (H.knows seat.old) (H.knows seat.new) session.now session.now }
+        → StepsOn told (H.knows seat.old) (H.knows seat.new) session.now session.now }
 {
     if marks.is_closed || session.end_of_asking().is_none() {
         return;
@@ -187,7 +254,7 @@ fn is_busy<K: ReadyLink>(session: &Session<K>, marks: Marks) -> bool {
         || (marks.is_filled && session.wants_to_read())
 }
 
-/// The second half of a round: the session is given its frames, and they are written. A second take finds out that there
+/// The second half of a round: the session is given its frames, and they are written. The last take finds out that there
 /// are no more, so that no further round is needed for that.
 pub(crate) fn step_out<H: HallApi, K: ReadyLink + Drop, R: Wait>(
     rt: &R,
@@ -205,12 +272,11 @@ pub(crate) fn step_out<H: HallApi, K: ReadyLink + Drop, R: Wait>(
     ensures bare { frames.new.list ≡ [] }
     ensures places { frames.new.places ≡ take_frames }
     ensures steps { (told : Option ℕ)
-        → StepsSession told (H.knows seat.old) (H.knows seat.new) session.old session.new }
+        → StepsOn told (H.knows seat.old) (H.knows seat.new) session.old session.new }
 {
     let mut marks = all.at(place);
     close_once(rt, hall, seat, session, &mut marks);
-    give_once(rt, hall, seat, session, &mut marks, frames);
-    give_once(rt, hall, seat, session, &mut marks, frames);
+    give_all(rt, hall, seat, session, &mut marks, frames);
     all.put(place, marks);
     if is_busy(session, marks) {
         all.is_busy = true;

@@ -3,18 +3,19 @@
 ghost use Rattle.std.specs.Prelude.{◌≡◌, ◌≤◌, ◌<◌, ◌++◌, ◌∷◌, ◌⊎◌, ℕ, Option, Some, None, Bool, true, false, List, [], length, IfSome, slice_set};
 ghost use Rattle.std.specs.List.{slice_get};
 ghost use Rattle.world_data.specs.Limits.{max_moment, take_frames};
-ghost use Rattle.serve_run.specs.Links.{IsTold};
+ghost use Rattle.serve_run.specs.Tends.{IsTold};
 ghost use Rattle.world_model.specs.Seats.{Knows};
-ghost use Rattle.ready_links.specs.Doors.{DoorState};
+ghost use Rattle.outside.specs.Doors.{DoorState};
 ghost use Rattle.session_run.specs.Sessions.{SessionState, IsOver};
-ghost use Rattle.serve_run.specs.SessionSteps.{StepsSession};
+ghost use Rattle.serve_run.specs.SessionSteps.{RemovesSession};
+ghost use Rattle.serve_run.specs.declared.terms.Terms.{Terms};
 ghost use Rattle.serve_run.specs.LoopEnds.{ShutBy};
 ghost use Rattle.serve_run.specs.LoopStates.{Keeps, KeepsTable, KeepsShut, NoneOpen, loop_state};
 
 use crate::marks::AllMarks;
 use crate::session_steps::{step_in, step_out};
-use ready_links::{ReadyDoor, ReadyLink, WaitForLinks};
-use session_run::{Session, TakeEnd};
+use outside::{ReadyDoor, ReadyLink, WaitForLinks};
+use session_run::Session;
 use std::mem;
 use std::sync::Wait;
 use world_model::{ChangedSessions, Frames, HallApi};
@@ -39,8 +40,8 @@ fn one_in<H: HallApi, K: ReadyLink + Drop, R: Wait>(
     requires some { 0 < length block.old }
     requires within { place < length table.old.items }
     ensures seat { H.is_of hall.now seat.new }
-    ensures keeps { (told : Option ℕ) → IsTold told moment
-        → KeepsTable told (H.knows seat.old) (H.knows seat.new) table.old.items table.new.items }
+    ensures keeps { (told : Option ℕ) → (terms : Terms) → IsTold told moment
+        → KeepsTable told terms (H.knows seat.old) (H.knows seat.new) table.old.items table.new.items }
     ensures length { length table.new.items ≡ length table.old.items }
     ensures block { length block.new ≡ length block.old }
 {
@@ -65,8 +66,8 @@ pub(crate) fn all_in<H: HallApi, K: ReadyLink + Drop, R: Wait>(
     requires moment { moment ≤ max_moment }
     requires some { 0 < length block.old }
     ensures seat { H.is_of hall.now seat.new }
-    ensures keeps { (told : Option ℕ) → IsTold told moment
-        → KeepsTable told (H.knows seat.old) (H.knows seat.new) table.old.items table.new.items }
+    ensures keeps { (told : Option ℕ) → (terms : Terms) → IsTold told moment
+        → KeepsTable told terms (H.knows seat.old) (H.knows seat.new) table.old.items table.new.items }
     ensures block { length block.new ≡ length block.old }
 {
     let mut touched = touched;
@@ -93,8 +94,8 @@ fn one_out<H: HallApi, K: ReadyLink + Drop, R: Wait>(
     ensures seat { H.is_of hall.now seat.new }
     ensures bare { frames.new.list ≡ [] }
     ensures places { frames.new.places ≡ take_frames }
-    ensures keeps { (told : Option ℕ)
-        → KeepsTable told (H.knows seat.old) (H.knows seat.new) table.old.items table.new.items }
+    ensures keeps { (told : Option ℕ) → (terms : Terms)
+        → KeepsTable told terms (H.knows seat.old) (H.knows seat.new) table.old.items table.new.items }
     ensures length { length table.new.items ≡ length table.old.items }
 {
     match &mut table[place] {
@@ -118,8 +119,8 @@ pub(crate) fn all_out<H: HallApi, K: ReadyLink + Drop, R: Wait>(
     ensures seat { H.is_of hall.now seat.new }
     ensures bare { frames.new.list ≡ [] }
     ensures places { frames.new.places ≡ take_frames }
-    ensures keeps { (told : Option ℕ)
-        → KeepsTable told (H.knows seat.old) (H.knows seat.new) table.old.items table.new.items }
+    ensures keeps { (told : Option ℕ) → (terms : Terms)
+        → KeepsTable told terms (H.knows seat.old) (H.knows seat.new) table.old.items table.new.items }
 {
     for place in 0..table.len() {
         one_out(rt, hall, seat, table, place, all, frames);
@@ -142,8 +143,8 @@ fn take_over<K: ReadyLink + Drop>(table: &mut Table<K>, place: usize) -> Option<
     mem::replace(&mut table[place], None)
 }
 
-// Removes a session from the hall, where its taking has not come to its end there.
-fn remove_if_there<H: HallApi, K: ReadyLink + Drop, R: Wait>(
+// Removes a session from the hall, also where the hall has done so with its last frame.
+fn remove<H: HallApi, K: ReadyLink + Drop, R: Wait>(
     rt: &R,
     hall: &H,
     seat: &mut H::Seat,
@@ -152,11 +153,8 @@ fn remove_if_there<H: HallApi, K: ReadyLink + Drop, R: Wait>(
     requires seat { H.is_of hall.now seat.old }
     ensures seat { H.is_of hall.now seat.new }
     ensures steps { (told : Option ℕ)
-        → StepsSession told (H.knows seat.old) (H.knows seat.new) session.now session.now }
+        → RemovesSession told (H.knows seat.old) (H.knows seat.new) session.now }
 {
-    if let Some(TakeEnd::Ended) = session.end_of_taking() {
-        return;
-    }
     hall.remove(rt, seat, session.number());
 }
 
@@ -175,14 +173,14 @@ where
     requires seat { H.is_of hall.now seat.old }
     requires within { place < length table.old.items }
     ensures seat { H.is_of hall.now seat.new }
-    ensures keeps { (told : Option ℕ) → KeepsShut told (H.knows seat.old) (H.knows seat.new)
+    ensures keeps { (told : Option ℕ) → (terms : Terms) → KeepsShut told terms (H.knows seat.old) (H.knows seat.new)
         (W.shows wait.old) (W.shows wait.new) table.old.items table.new.items result }
     ensures length { length table.new.items ≡ length table.old.items }
 {
     match take_over(table, place) {
         Some(session) => {
             all.leave(session.number());
-            remove_if_there(rt, hall, seat, &session);
+            remove(rt, hall, seat, &session);
             shut(wait, session.into_link())
         }
         None => true,
@@ -202,7 +200,7 @@ where
     D::Link: Drop,
     requires seat { H.is_of hall.now seat.old }
     ensures seat { H.is_of hall.now seat.new }
-    ensures keeps { (told : Option ℕ) → KeepsShut told (H.knows seat.old) (H.knows seat.new)
+    ensures keeps { (told : Option ℕ) → (terms : Terms) → KeepsShut told terms (H.knows seat.old) (H.knows seat.new)
         (W.shows wait.old) (W.shows wait.new) table.old.items table.new.items result }
 {
     for place in 0..table.len() {
@@ -254,9 +252,9 @@ pub(crate) fn shut<D: ReadyDoor, W: WaitForLinks<D>>(wait: &mut W, link: D::Link
 fn shut_popped<D: ReadyDoor, W: WaitForLinks<D>>(wait: &mut W, place: Option<Session<D::Link>>)
 where
     D::Link: Drop,
-    ensures keeps { (told : Option ℕ) → (k : Knows) → (d : DoorState) → (places : List (Option SessionState))
+    ensures keeps { (told : Option ℕ) → (terms : Terms) → (k : Knows) → (d : DoorState) → (places : List (Option SessionState))
         → (joined starved : ℕ) → (is_over goes_on : Bool)
-        → Keeps told (loop_state k d (W.shows wait.old) (places ++ place ∷ []) joined starved is_over goes_on)
+        → Keeps told terms (loop_state k d (W.shows wait.old) (places ++ place ∷ []) joined starved is_over goes_on)
         (loop_state k d (W.shows wait.new) places joined starved is_over false) }
     ensures faults { (W.shows wait.new).faults ≡ (W.shows wait.old).faults }
 {
@@ -269,8 +267,8 @@ where
 pub(crate) fn shut_all<D: ReadyDoor, W: WaitForLinks<D>>(wait: &mut W, table: &mut Table<D::Link>)
 where
     D::Link: Drop,
-    ensures keeps { (told : Option ℕ) → (k : Knows) → (d : DoorState) → (joined starved : ℕ) → (is_over goes_on : Bool)
-        → Keeps told (loop_state k d (W.shows wait.old) table.old.items joined starved is_over goes_on)
+    ensures keeps { (told : Option ℕ) → (terms : Terms) → (k : Knows) → (d : DoorState) → (joined starved : ℕ) → (is_over goes_on : Bool)
+        → Keeps told terms (loop_state k d (W.shows wait.old) table.old.items joined starved is_over goes_on)
         (loop_state k d (W.shows wait.new) table.new.items joined starved is_over false) }
     ensures none { table.new.items ≡ [] }
     ensures faults { (W.shows wait.new).faults ≡ (W.shows wait.old).faults }

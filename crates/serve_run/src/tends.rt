@@ -1,23 +1,18 @@
-//! The Tick and the Rewrites behind it.
-//!
-//! Sixteen steps of rewriting stand behind each tick, which comes about ten times a second, and a step copies at most
-//! 256 items. A step that is not answered Ok ends the loop.
+//! The Tick and the Rewrites behind it. A step of rewriting copies at most 256 items; one that is not answered Ok ends
+//! the loop.
 
 ghost use Rattle.std.specs.Prelude.{◌≡◌, ◌≤◌, ℕ, Option};
 ghost use Rattle.world_data.specs.Limits.{max_moment};
-ghost use Rattle.serve_run.specs.Links.{IsTold, Tends, Rewritten, serve_end};
+ghost use Rattle.serve_run.specs.Tends.{IsTold, AreFew, Tends, Rewritten, serve_end};
 
 use std::sync::Wait;
-use world_model::{CallOutcome, ChangedSessions, HallApi};
-
-// The steps of rewriting behind each Tick. One step each time would take minutes over a large world. Where no rewriting
-// is under way a step only commits what is pending.
-const REWRITE_STEPS: u32 = 16;
+use world_model::{CallOutcome, ChangedSessions, HallApi, LogState};
 
 /// How the loop of a server ended.
 #[derive(Clone, Copy, Debug, PartialEq, Eq)]
 pub enum ServeEnd {
-    /// The door told that no caller will come, or as many came as are served, and all links are through.
+    /// The door told that no caller will come, or as many came as are served, or the end was asked for; and all links
+    /// are through.
     Done,
     /// The door failed, or the one that waits.
     DoorFault,
@@ -52,38 +47,64 @@ fn serve_end(answer: CallOutcome) -> Option<ServeEnd>
     }
 }
 
-// Makes the Rewrites that stand behind a Tick, up to the first that brings an end. That end.
-fn step_rewrites<H: HallApi, R: Wait>(rt: &R, hall: &H, seat: &mut H::Seat) -> Option<ServeEnd>
-    requires { H.is_of hall.now seat.old }
+// Makes the Rewrites that stand behind a Tick: so many as long as the log is rewritten, else one, which commits what is
+// pending; or those up to the first that brings an end. That end, and what the last one told of the log.
+fn step_rewrites<H: HallApi, R: Wait>(
+    rt: &R,
+    hall: &H,
+    seat: &mut H::Seat,
+    steps: u32,
+) -> (Option<ServeEnd>, LogState)
+    requires seat { H.is_of hall.now seat.old }
+    requires few { AreFew steps }
     ensures seat { H.is_of hall.now seat.new }
-    ensures rewritten { Rewritten (H.knows seat.old) (H.knows seat.new) result }
+    ensures rewritten { Rewritten (H.knows seat.old) (H.knows seat.new) result.0 }
 {
-    for _ in 0..REWRITE_STEPS {
-        let rewritten = hall.step_rewrite(rt, seat);
+    let mut log = LogState {
+        bytes: 0,
+        is_rewriting: false,
+    };
+    for _ in 0..steps {
+        let (rewritten, told) = hall.step_rewrite(rt, seat);
+        log = told;
         if let Some(end) = serve_end(rewritten) {
-            return Some(end);
+            return (Some(end), log);
+        }
+        if !told.is_rewriting {
+            return (None, log);
         }
     }
-    None
+    (None, log)
 }
 
-/// Makes a Tick at a moment and the Rewrites behind it. The end that they bring, and the sessions that were touched.
+/// Makes a Tick at a moment and Rewrites behind it, up to so many.
 pub(crate) fn tick_and_rewrite<H: HallApi, R: Wait>(
     rt: &R,
     hall: &H,
     seat: &mut H::Seat,
     moment: u64,
+    steps: u32,
     touched: ChangedSessions,
-) -> (Option<ServeEnd>, ChangedSessions)
+) -> (Option<ServeEnd>, LogState, ChangedSessions)
     requires seat { H.is_of hall.now seat.old }
     requires moment { moment ≤ max_moment }
+    requires few { AreFew steps }
     ensures seat { H.is_of hall.now seat.new }
     ensures tends { (told : Option ℕ) → IsTold told moment
         → Tends told (H.knows seat.old) (H.knows seat.new) result.0 }
 {
     let (ticked, touched) = hall.tick(rt, seat, moment, touched);
     match serve_end(ticked) {
-        Some(end) => (Some(end), touched),
-        None => (step_rewrites(rt, hall, seat), touched),
+        Some(end) => {
+            let log = LogState {
+                bytes: 0,
+                is_rewriting: false,
+            };
+            (Some(end), log, touched)
+        }
+        None => {
+            let (end, log) = step_rewrites(rt, hall, seat, steps);
+            (end, log, touched)
+        }
     }
 }

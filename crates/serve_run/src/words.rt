@@ -1,15 +1,29 @@
 //! The words of the command line that ask to serve.
 //!
-//! The words are read by hand: three shapes, in the order of the usage line. A reader of options would accept more than
-//! that line says.
+//! `clap` reads them: options come in any order, and `--sessions=5` is as good as two words. Numbers are read as words,
+//! and have to be canonical.
 
-ghost use Rattle.std.specs.Prelude.{◌≡◌, ◌∷◌, [], map, option_map, string_bytes, codes, bytes_eq};
-ghost use Rattle.serve_run.specs.Words.{limit_of, served_at, served_up_to, serve_of, is_address};
+ghost use Rattle.std.specs.Prelude.{◌≡◌, map, true, option_map, string_bytes, codes, IfOk, OnErr};
+ghost use Rattle.clap.specs.Words.{app_of, found_of, rows_of};
+ghost use Rattle.serve_run.specs.Options.{begins_with, word_of};
+ghost use Rattle.serve_run.specs.Words.{asked_of, is_given, number_of, serve_app, serve_in, serve_of};
 
-use byte_text::read_u64;
+use crate::options::{begins_with, matched, with_flag, with_needed, with_option, word_in};
+use byte_text::{NoMemory, read_u64};
+use clap::{ArgMatches, Command};
+use std::alloc::Global;
 
 /// So many callers are served where the words say nothing else, and at most.
 const MOST_LINKS: u32 = 1_000_000_000;
+
+/// So many seconds a link may be idle at most, where that is asked for.
+const MOST_IDLE: u32 = 1_000_000_000;
+
+/// At most so many per cent more may be in the log than was there behind its last rewriting.
+const MOST_SHRINK_AT: u32 = 1_000_000;
+
+/// Where the words say nothing else, the log is rewritten when it has grown by so many per cent.
+const SHRINK_AT: u32 = 100;
 
 /// What the words ask for where they ask to serve.
 #[derive(Clone, Copy)]
@@ -18,74 +32,71 @@ pub struct ServeWords<'a> {
     pub addr: &'a str,
     /// How many callers are served.
     pub limit: u32,
+    /// Behind so many seconds without a request a link is ended; 0 for never.
+    pub idle: u32,
+    /// By so many per cent the log grows until it is rewritten; 0 for never.
+    pub shrink_at: u32,
+    /// Whether the end of standard input asks for the end.
+    pub until_end: bool,
 }
 
-// The number of callers that the word names.
-fn limit_in(word: &str) -> Option<u32>
-    ensures { result ≡ limit_of word.now }
+// `serve ADDR [--sessions N] [--idle SECONDS] [--shrink-at PERCENT] [--until-stdin-ends]`
+fn serve_command<'a>(alloc: Global) -> Result<Command<'a>, NoMemory>
+    ensures { IfOk result (λ c. app_of c ≡ serve_app) }
 {
+    let command = with_needed(alloc, Command::new(alloc, "serve"), "addr")?;
+    let command = with_option(alloc, command, "sessions")?;
+    let command = with_option(alloc, command, "idle")?;
+    let command = with_option(alloc, command, "shrink-at")?;
+    with_flag(alloc, command, "until-stdin-ends")
+}
+
+// The number that the word names, within bounds, or the one that stands for no word.
+fn number_in(word: Option<&str>, least: u32, most: u32, unsaid: u32) -> Option<u32>
+    ensures { result ≡ number_of least most unsaid (word_of word.entry) }
+{
+    let Some(word) = word else {
+        return Some(unsaid);
+    };
     match read_u64(word.as_bytes()) {
-        Ok(number) if number >= 1 && number <= MOST_LINKS as u64 => Some(number as u32),
+        Ok(number) if number >= least as u64 && number <= most as u64 => Some(number as u32),
         _ => None,
     }
 }
 
-// Whether the word may be an address: it is none of an option.
-fn may_be_address(word: &str) -> bool
-    ensures { result ≡ is_address word.now }
+// Whether the flag was given.
+fn is_given(word: Option<&str>) -> bool
+    ensures { result ≡ is_given (word_of word.entry) }
 {
-    match word.as_bytes() {
-        [first, ..] => *first != b'-',
-        [] => true,
+    match word {
+        Some(word) => word == "true",
+        None => false,
     }
 }
 
-fn is(word: &str, name: &str) -> bool
-    ensures { result ≡ bytes_eq word.now name.now }
+// What was found, where each number is one.
+fn asked_in<'a>(matches: &ArgMatches<'a>) -> Option<ServeWords<'a>>
+    ensures { option_map asked_of result ≡ serve_in (rows_of (found_of matches.now)) }
 {
-    word == name
+    Some(ServeWords {
+        addr: word_in(matches, "addr")?,
+        limit: number_in(word_in(matches, "sessions"), 1, MOST_LINKS, MOST_LINKS)?,
+        idle: number_in(word_in(matches, "idle"), 1, MOST_IDLE, 0)?,
+        shrink_at: number_in(word_in(matches, "shrink-at"), 0, MOST_SHRINK_AT, SHRINK_AT)?,
+        until_end: is_given(word_in(matches, "until-stdin-ends")),
+    })
 }
 
-fn at<'a>(word: &str, addr: &'a str) -> Option<ServeWords<'a>>
-    ensures { option_map (λ w. record { addr = w.addr.now; limit = w.limit }) result ≡ served_at word.now addr.now }
+/// What the words ask for, if they ask to serve. Memory is wanted only where their first is `serve`.
+pub fn serve_words(alloc: Global, words: &[String]) -> Result<Option<ServeWords<'_>>, NoMemory>
+    ensures asked { IfOk result (λ r. option_map asked_of r ≡ serve_of (map string_bytes words.now)) }
+    ensures begun { OnErr result (begins_with (codes "serve") (map string_bytes words.now) ≡ true) }
 {
-    if is(word, "serve") && may_be_address(addr) {
-        Some(ServeWords {
-            addr,
-            limit: MOST_LINKS,
-        })
-    } else {
-        None
+    if !begins_with(words, "serve") {
+        return Ok(None);
     }
-}
-
-fn up_to<'a>(word: &str, addr: &'a str, option: &str, number: &str) -> Option<ServeWords<'a>>
-    ensures { option_map (λ w. record { addr = w.addr.now; limit = w.limit }) result
-        ≡ served_up_to word.now addr.now option.now number.now }
-{
-    if is(word, "serve") && may_be_address(addr) && is(option, "--sessions") {
-        match limit_in(number) {
-            Some(limit) => Some(ServeWords { addr, limit }),
-            None => None,
-        }
-    } else {
-        None
-    }
-}
-
-/// What the words ask for, if they ask to serve.
-pub fn serve_words(words: &[String]) -> Option<ServeWords<'_>>
-    ensures { option_map (λ w. record { addr = w.addr.now; limit = w.limit }) result
-        ≡ serve_of (map string_bytes words.now) }
-{
-    match words {
-        [word, addr] => at(word.as_str(), addr.as_str()),
-        [word, addr, option, number] => up_to(
-            word.as_str(),
-            addr.as_str(),
-            option.as_str(),
-            number.as_str(),
-        ),
-        _ => None,
+    match matched(serve_command(alloc)?, words)? {
+        Some(matches) => Ok(asked_in(&matches)),
+        None => Ok(None),
     }
 }

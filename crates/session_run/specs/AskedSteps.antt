@@ -14,11 +14,11 @@ use Rattle.world_model.specs.declared.events.CallOutcome.{CallOutcome}
 use Rattle.world_model.specs.declared.events.CallOutcome.TheVariants as called
 use Rattle.world_model.specs.declared.events.Outcome.{Outcome}
 use Rattle.world_model.specs.declared.events.Outcome.TheVariants as outcome
-use Rattle.ready_links.specs.Links.{LinkState, Reads, Writes}
-use Rattle.ready_links.specs.declared.links.Got.{Got}
-use Rattle.ready_links.specs.declared.links.Got.TheVariants as got
-use Rattle.ready_links.specs.declared.links.Sent.{Sent}
-use Rattle.ready_links.specs.declared.links.Sent.TheVariants as sent
+use Rattle.outside.specs.Links.{LinkState, Reads, Writes}
+use Rattle.outside.specs.declared.links.Got.{Got}
+use Rattle.outside.specs.declared.links.Got.TheVariants as got
+use Rattle.outside.specs.declared.links.Sent.{Sent}
+use Rattle.outside.specs.declared.links.Sent.TheVariants as sent
 use Rattle.session_run.specs.Calls.{Call, Serves, IsStop}
 use Rattle.session_run.specs.Ends.{end_of}
 use Rattle.session_run.specs.Feeds.{asked_behind, EndsBroken}
@@ -29,8 +29,8 @@ use Rattle.session_run.specs.declared.phases.Asking.TheVariants.{Open, Breaking,
 use Rattle.session_run.specs.declared.phases.TakeEnd.{TakeEnd}
 use Rattle.session_run.specs.declared.phases.TakeEnd.TheVariants as taking
 use Rattle.session_run.specs.Filling.{IsFilled}
-use Rattle.session_run.specs.Sessions.{SessionState, opened, demand, goes_on, WantsToRead}
-use Rattle.session_run.specs.Steps.{got_bytes, UnlessMemory, said_too, Readies, AsksOn, Answered, Takes, WritesOut, taking_behind}
+use Rattle.session_run.specs.Sessions.{SessionState, opened, demand, goes_on, WantsToRead, CanDismiss}
+use Rattle.session_run.specs.Steps.{got_bytes, UnlessMemory, said_too, Readies, AsksOn, Answered, Takes, WritesOut, Dismisses, Cuts, taking_behind}
 use Rattle.session_run.specs.SoFar.{asked_for, ServesOn, Asks, AskedSoFar, asked_at, left_of, line_of, no_less, rose_before}
 use Rattle.session_run.specs.Turns.{ok_calls, next_calls, turn_calls, call_at, IsTold, serves_more, serves_oks, serves_full, stops_next}
 use Rattle.session_run.specs.Turns.{split_asks, serves_front, ends_at}
@@ -372,6 +372,32 @@ module _ (told : Option ℕ) (made : List Call) (came : LinkState) (old new : Se
   asked_written (Ok sent.Later) w is = asked_at is s
   asked_written (Err e) w is = asked_at is
       (same_asked new.line old.out (Some taking.WriteFault) (left_of w.same) w.later)
+
+  pub asked_cut : Cuts old new → AskedSoFar told made came new
+  asked_cut is = asked_at is (same_asked old.line old.out (Some taking.Late) refl (omega arith))
+
+-- ---- an end by the server
+
+module _ (told : Option ℕ) (made : List Call) (came : LinkState) (old new : SessionState) (can : CanDismiss old) (s : AskedSoFar told made came old) where
+  asks_before : Asks told s.calls s.stop s.read old Open
+  asks_before = subst (λ (a : Asking). Asks told s.calls s.stop s.read old a) can.0 s.asks
+
+  none_left : demand old [] ≡ [] → Serves told s.calls (asked_for s.read) []
+  none_left none = subst (λ (l : List Asked). Serves told s.calls (asked_for s.read) l) none
+      (read_all told s.calls s.read old (demand old []) (asks_before.1 []))
+
+  pub asked_dismissed : Dismisses old new → AskedSoFar told made came new
+  asked_dismissed is = asked_at is.0 (record {
+    read = s.read;
+    consumed = s.consumed;
+    calls = s.calls;
+    stop = [];
+    made_are = s.made_are ∙ ap (λ (l : List Call). s.calls ++ l) asks_before.0;
+    asks = ([], none_left (ap (λ (x : SessionState). demand x []) (sym is.0) ∙ is.1), (refl, refl));
+    at_end = λ e. absurd (cc);
+    cause = λ e. absurd (cc);
+    later = s.later;
+  })
 
 -- ---- at the end of a link, whatever ended it
 

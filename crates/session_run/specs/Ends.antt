@@ -6,7 +6,7 @@ use Rattle.world_model.specs.declared.events.CallOutcome.TheVariants as called
 use Rattle.session_run.specs.Calls.{Call, IsStop}
 use Rattle.session_run.specs.Feeds.{EndsBroken}
 use Rattle.session_run.specs.declared.ends.InEnd.{InEnd}
-use Rattle.session_run.specs.declared.ends.InEnd.TheVariants.{Over, Broken, ClosedByHall, ReadFault, LogFault, Stopped, Spent, Memory}
+use Rattle.session_run.specs.declared.ends.InEnd.TheVariants.{Over, Broken, ClosedByHall, ReadFault, LogFault, Stopped, Spent, Memory, Dismissed}
 
 -- the end that a call's answer brings
 abbrev pub end_of : CallOutcome → Option InEnd
@@ -18,11 +18,12 @@ end_of called.Stopped = Some Stopped
 end_of called.Spent = Some Spent
 end_of called.Memory = Some Memory
 
--- why it ended: all that is asked for was answered Ok, and it is the end of the input, or its last is a fault's, or reading failed; or one
--- call more was answered otherwise. Memory is free
+-- why it ended: all that is asked for was answered Ok, and it is the end of the input, or its last is a fault's, or reading failed, or the
+-- server ended it; or one call more was answered otherwise. Memory is free
 abbrev pub EndsAt : Option ℕ → InEnd → List Call → List Asked → List Asked → Type 0
 EndsAt told Over stop asks left = (stop ≡ []) × (left ≡ [])
 EndsAt told ReadFault stop asks left = (stop ≡ []) × (left ≡ [])
+EndsAt told Dismissed stop asks left = (stop ≡ []) × (left ≡ [])
 EndsAt told Broken stop asks left = (stop ≡ []) × (left ≡ []) × EndsBroken asks
 EndsAt told ClosedByHall stop asks left = IsStop told called.Gone stop left
 EndsAt told LogFault stop asks left = IsStop told called.LogFault stop left

@@ -4,13 +4,13 @@ use Rattle.std.specs.Io.KnownBytes.{append_known}
 use Rattle.byte_text.specs.Names.{Bytes}
 use Rattle.resp_frames.specs.RequestReader.{Held}
 use Rattle.world_model.specs.declared.events.Asked.{Asked}
-use Rattle.ready_links.specs.Links.{LinkState}
+use Rattle.outside.specs.Links.{LinkState}
 use Rattle.session_run.specs.Feeds.{asked_behind}
 use Rattle.session_run.specs.declared.ends.InEnd.{InEnd}
 use Rattle.session_run.specs.declared.phases.Asking.{Asking}
 use Rattle.session_run.specs.declared.phases.Asking.TheVariants.{Open, Breaking, Ended}
 use Rattle.session_run.specs.declared.phases.TakeEnd.{TakeEnd}
-use Rattle.session_run.specs.declared.phases.TakeEnd.TheVariants.{WriteFault}
+use Rattle.session_run.specs.declared.phases.TakeEnd.TheVariants.{WriteFault, Late}
 
 -- its link and its number; the bytes that begin a request, what was read behind them and not looked at yet, and the requests that wait
 -- for their calls; what is to be written; how far its asking is, and how the taking of its frames ended, if it did
@@ -64,6 +64,7 @@ WantsTake s = (s.taking ≡ None) × (s.out ≡ [])
 
 abbrev pub can_write : Option TakeEnd → Bool
 can_write (Some WriteFault) = false
+can_write (Some Late) = false
 can_write taking = true
 
 abbrev pub WantsToWrite : SessionState → Type 0
@@ -72,6 +73,10 @@ WantsToWrite s = (0 < length s.out) × (can_write s.taking ≡ true)
 -- nothing is taken any more, and what was taken is written, as far as it can be
 abbrev pub IsOver : SessionState → Type 0
 IsOver s = (s.taking ≡ None → ⊥) × (WantsToWrite s → ⊥)
+
+-- the server may end its asking only where nothing that was read waits for its call
+abbrev pub CanDismiss : SessionState → Type 0
+CanDismiss s = (s.asking ≡ Open) × (s.rest ≡ []) × (s.asked ≡ [])
 
 -- how its asking ended, if it did
 abbrev pub end_of_asking : Asking → Option InEnd

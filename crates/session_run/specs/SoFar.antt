@@ -9,7 +9,7 @@ use Rattle.byte_text.specs.Streams.{stream_of}
 use Rattle.world_model.specs.declared.events.Asked.{Asked}
 use Rattle.world_model.specs.declared.events.Outcome.{Outcome}
 use Rattle.world_model.specs.declared.events.Outcome.TheVariants as outcome
-use Rattle.ready_links.specs.Links.{LinkState}
+use Rattle.outside.specs.Links.{LinkState}
 use Rattle.session_run.specs.Calls.{Call, Serves}
 use Rattle.session_run.specs.Ends.{EndsAt}
 use Rattle.session_run.specs.Feeds.{asked_by, EndsBroken}
@@ -49,10 +49,11 @@ pub record AskedSoFar (told : Option ℕ) (made : List Call) (came : LinkState) 
   pub cause : s.asking ≡ Ended ended.ReadFault → Rose came.faults s.line.faults
   pub later : came.faults ≤ s.line.faults
 
--- what the takes gave was written or is to be written, in order; where the link failed or memory ran out, a first part of it
+-- what the takes gave was written or is to be written, in order; where the link failed or was cut or memory ran out, a first part of it
 abbrev pub Owes : Option TakeEnd → Option Bytes → SessionState → Bytes → Type 0
 Owes (Some taking.WriteFault) held s given = AppendsPart held (owed s) given
 Owes (Some taking.Memory) held s given = AppendsPart held (owed s) given
+Owes (Some taking.Late) held s given = AppendsPart held (owed s) given
 Owes t held s given = Appends held (owed s) given
 
 -- these takes were made of a session, from its link's caller on

@@ -7,10 +7,10 @@ use Rattle.world_model.specs.declared.events.CallOutcome.{CallOutcome}
 use Rattle.world_model.specs.declared.events.CallOutcome.TheVariants as called
 use Rattle.world_model.specs.declared.events.Outcome.{Outcome}
 use Rattle.world_model.specs.declared.events.Outcome.TheVariants as outcome
-use Rattle.ready_links.specs.declared.links.Got.{Got}
-use Rattle.ready_links.specs.declared.links.Got.TheVariants as got
-use Rattle.ready_links.specs.declared.links.Sent.{Sent}
-use Rattle.ready_links.specs.declared.links.Sent.TheVariants as sent
+use Rattle.outside.specs.declared.links.Got.{Got}
+use Rattle.outside.specs.declared.links.Got.TheVariants as got
+use Rattle.outside.specs.declared.links.Sent.{Sent}
+use Rattle.outside.specs.declared.links.Sent.TheVariants as sent
 use Rattle.session_run.specs.Ends.{end_of}
 use Rattle.session_run.specs.declared.ends.InEnd.{InEnd}
 use Rattle.session_run.specs.declared.ends.InEnd.TheVariants as ended
@@ -90,3 +90,11 @@ abbrev pub WritesOut : {E : Type 0} → SessionState → SessionState → Result
 WritesOut old new (Ok (sent.Bytes n)) = new ≡ record old { line = new.line; out = drop n old.out }
 WritesOut old new (Ok sent.Later) = new ≡ old
 WritesOut old new (Err e) = new ≡ record old { line = new.line; taking = Some taking.WriteFault }
+
+-- the server ended the asking, and nothing is left to be asked
+abbrev pub Dismisses : SessionState → SessionState → Type 0
+Dismisses old new = (new ≡ record old { asking = Ended ended.Dismissed }) × (demand new [] ≡ [])
+
+-- the server cut the link: nothing more is taken, and what was to be written is lost
+abbrev pub Cuts : SessionState → SessionState → Type 0
+Cuts old new = new ≡ record old { taking = Some taking.Late }

@@ -14,18 +14,18 @@ use Rattle.world_model.specs.declared.events.CallOutcome.{CallOutcome}
 use Rattle.world_model.specs.declared.events.CallOutcome.TheVariants as called
 use Rattle.world_model.specs.declared.events.Outcome.{Outcome}
 use Rattle.world_model.specs.declared.events.Outcome.TheVariants as outcome
-use Rattle.ready_links.specs.Links.{LinkState, Reads, Writes}
-use Rattle.ready_links.specs.declared.links.Got.{Got}
-use Rattle.ready_links.specs.declared.links.Got.TheVariants as got
-use Rattle.ready_links.specs.declared.links.Sent.{Sent}
-use Rattle.ready_links.specs.declared.links.Sent.TheVariants as sent
+use Rattle.outside.specs.Links.{LinkState, Reads, Writes}
+use Rattle.outside.specs.declared.links.Got.{Got}
+use Rattle.outside.specs.declared.links.Got.TheVariants as got
+use Rattle.outside.specs.declared.links.Sent.{Sent}
+use Rattle.outside.specs.declared.links.Sent.TheVariants as sent
 use Rattle.session_run.specs.Outs.{given_bytes, bytes_given}
 use Rattle.session_run.specs.declared.phases.Asking.{Asking}
 use Rattle.session_run.specs.declared.phases.Asking.TheVariants.{Open, Breaking, Ended}
 use Rattle.session_run.specs.declared.phases.TakeEnd.{TakeEnd}
 use Rattle.session_run.specs.declared.phases.TakeEnd.TheVariants as taking
 use Rattle.session_run.specs.Sessions.{SessionState, opened, owed, WantsTake}
-use Rattle.session_run.specs.Steps.{Readies, AsksOn, Answered, Takes, WritesOut, taking_behind}
+use Rattle.session_run.specs.Steps.{Readies, AsksOn, Answered, Takes, WritesOut, Dismisses, Cuts, taking_behind}
 use Rattle.session_run.specs.Owing.{owed_same, owed_taken, owed_part, owed_all}
 use Rattle.session_run.specs.SoFar.{Owes, WrittenSoFar, held_of, line_of, no_less, out_of, rose_before, taking_of, written_at}
 
@@ -43,6 +43,7 @@ owes_kept : (t : Option TakeEnd) (held : Option Bytes) (old new : SessionState) 
     → Owes t held old given → Owes t held new given
 owes_kept (Some taking.WriteFault) held old new given k o = part_kept held (owed old) (owed new) given o k
 owes_kept (Some taking.Memory) held old new given k o = part_kept held (owed old) (owed new) given o k
+owes_kept (Some taking.Late) held old new given k o = part_kept held (owed old) (owed new) given o k
 owes_kept t held old new given k o = appends_kept held (owed old) (owed new) given o k
 
 no_end : (t : Option TakeEnd) → t ≡ None → t ≡ Some taking.Ended → ⊥
@@ -51,6 +52,7 @@ no_end t none is = cc
 part_of : (t : Option TakeEnd) (held : Option Bytes) (s : SessionState) (given : Bytes) → Owes t held s given → AppendsPart held (owed s) given
 part_of (Some taking.WriteFault) held s given o = o
 part_of (Some taking.Memory) held s given o = o
+part_of (Some taking.Late) held s given o = o
 part_of t held s given o = (given, ([], append-nil given), o)
 
 part_of_part : (held held' : Option Bytes) (part given : Bytes) → IsPrefix part given → AppendsPart held held' part → AppendsPart held held' given
@@ -175,6 +177,19 @@ module _ (takes : List Outcome) (came : LinkState) (old : SessionState) (w : Wri
   written_taken new (outcome.Answered called.Stopped) wants is = by_none new (outcome.Answered called.Stopped) wants.0 is refl (λ g a. a)
       (λ e. absurd (cc)) (λ e. absurd (cc))
   written_taken new o wants is = by_none new o wants.0 is refl (λ g a. a) (λ e. absurd (cc)) (λ e. absurd (cc))
+
+  -- ---- an end by the server
+
+  pub written_dismissed : (new : SessionState) → Dismisses old new → WrittenSoFar takes came new
+  written_dismissed new is = same_line new (line_of is.0) (out_of is.0) (taking_of is.0)
+
+  pub written_cut : (new : SessionState) → old.taking ≡ None → Cuts old new → WrittenSoFar takes came new
+  written_cut new none is = written_at is (record {
+    owes = (bytes_given takes, ([], append-nil (bytes_given takes)), owes_before none);
+    last = λ e. absurd (cc);
+    cause = λ e. absurd (cc);
+    later = w.later;
+  })
 
   -- ---- at the end of a link
 

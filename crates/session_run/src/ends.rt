@@ -19,4 +19,6 @@ pub enum InEnd {
     Spent,
     /// Memory ran out, here or in the hall.
     Memory,
+    /// The server ended it, behind the answer to all that was asked before.
+    Dismissed,
 }

@@ -30,6 +30,8 @@ pub enum TakeEnd {
     Stopped,
     /// Memory ran out, and frames that were taken are lost.
     Memory,
+    /// The link was cut by the server, as it took too long; what was to be written is lost.
+    Late,
 }
 
 /// The end that a call's answer brings.

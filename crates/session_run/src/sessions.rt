@@ -8,18 +8,19 @@ ghost use Rattle.std.specs.List.{list_all};
 ghost use Rattle.std.specs.Io.KnownBytes.{Appends, Keeps};
 ghost use Rattle.byte_text.specs.Names.{Bytes};
 ghost use Rattle.world_model.specs.Outcomes.{IsCount, is_proper, take_outcome};
-ghost use Rattle.ready_links.specs.Links.{GotWithin, SentWithin, Reads, Writes};
+ghost use Rattle.outside.specs.Links.{GotWithin, SentWithin, Reads, Writes};
 ghost use Rattle.session_run.specs.Outs.{given_bytes};
 ghost use Rattle.session_run.specs.Sessions.{opened, demand, owed, WantsToRead, WantsTurn, WantsTake};
-ghost use Rattle.session_run.specs.Sessions.{WantsToWrite, IsOver, goes_on, end_of_asking};
+ghost use Rattle.session_run.specs.Sessions.{WantsToWrite, IsOver, CanDismiss, goes_on, end_of_asking};
 ghost use Rattle.session_run.specs.Steps.{got_bytes, UnlessMemory, UnlessLost, Readies, Answered, Takes, WritesOut};
+ghost use Rattle.session_run.specs.Steps.{Dismisses, Cuts};
 ghost use Rattle.session_run.specs.Filling.{IsFilled, IsFit};
 
 use crate::ends::InEnd;
 use crate::filling::{fill_from, refill};
 use crate::phases::{Asking, TakeEnd, end_of};
 use crate::waiting_bytes::WaitingBytes;
-use ready_links::{Failed, Got, ReadyLink, Sent};
+use outside::{Failed, Got, ReadyLink, Sent};
 use resp_frames::Requests;
 use std::alloc::Global;
 use std::marker::Model;
@@ -159,7 +160,7 @@ impl<K: ReadyLink> Session<K> {
     pub fn wants_to_write(&self) -> bool
         ensures { Decides result (WantsToWrite self.now) }
     {
-        !self.out.is_empty() && !matches!(self.taking, Some(TakeEnd::WriteFault))
+        !self.out.is_empty() && !matches!(self.taking, Some(TakeEnd::WriteFault | TakeEnd::Late))
     }
 
     /// Whether nothing more comes of it, so that its link is to be shut.
@@ -167,6 +168,13 @@ impl<K: ReadyLink> Session<K> {
         ensures { Decides result (IsOver self.now) }
     {
         self.taking.is_some() && !self.wants_to_write()
+    }
+
+    /// Whether the server may end its asking: all that was read of it is answered, but for the beginning of a request.
+    pub fn may_be_dismissed(&self) -> bool
+        ensures { Decides result (CanDismiss self.now) }
+    {
+        matches!(self.asking, Asking::Open) && self.rest.is_empty() && self.asked.len() == 0
     }
 
     /// How its asking ended, if it did. The hall is to close the session then.
@@ -288,6 +296,22 @@ impl<K: ReadyLink> Session<K> {
             Err(Failed) => self.taking = Some(TakeEnd::WriteFault),
         }
         answer
+    }
+
+    /// Ends its asking by the server's will. Nothing is left to be asked, and what is to be written stays.
+    pub fn dismiss(&mut self)
+        requires { CanDismiss self.old }
+        ensures { Dismisses self.old self.new }
+    {
+        self.asking = Asking::Ended(InEnd::Dismissed);
+    }
+
+    /// Gives up what its link doesn't take: nothing more is taken for it or written.
+    pub fn cut(&mut self)
+        requires { self.old.taking ≡ None }
+        ensures { Cuts self.old self.new }
+    {
+        self.taking = Some(TakeEnd::Late);
     }
 
     /// Its link, to be shut.

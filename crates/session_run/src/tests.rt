@@ -4,7 +4,7 @@ ghost use Rattle.std.specs.Prelude.{◌≡◌};
 ghost use Rattle.session_run.specs.Sessions.{WantsTurn};
 
 use crate::{InEnd, Session, TakeEnd};
-use ready_links::{CallerScript, Move, ScriptedLink};
+use outside::{CallerScript, Move, ScriptedLink};
 use std::alloc::{AllocError, Global};
 use std::test::Fail;
 use world_model::{Answers, Asked, CallOutcome, Frames, Taken};
@@ -238,5 +238,57 @@ fn a_turn_carries_64_requests_and_the_next_ones_the_rest(rt: HostRuntime) -> Res
         assert_eq!(rt; played.turns.as_slice(), turns);
         assert_eq!(rt; played.written.as_slice(), words.as_slice());
     }
+    Ok(())
+}
+
+// A session of which a request and a half was read, and the first one is answered.
+fn begun(alloc: Global, writes: &[Move]) -> Result<Session<ScriptedLink>, Fail> {
+    let script = caller(alloc, b"ab", b"", &[Move::Most(15)], writes)?;
+    let mut session = Session::new(alloc, ScriptedLink::new(alloc, 0, script), 7);
+    let mut frames = Frames::new(alloc)?;
+    let mut turns = Vec::new(alloc);
+    let mut block = [0; 4096];
+    if session.wants_to_read() {
+        let _ = session.on_readable(&mut block);
+    }
+    if session.wants_turn() {
+        answer(&mut session, 64, &mut turns, &mut frames)?;
+    }
+    if session.wants_take() {
+        session.on_taken(taken(&session, &frames), &frames);
+    }
+    Ok(session)
+}
+
+#[test]
+fn the_server_dismisses_and_cuts(rt: HostRuntime) -> Result<(), Fail> {
+    let alloc = rt.alloc();
+    let none = Frames::new(alloc)?;
+    let mut session = begun(alloc, &[])?;
+    if session.may_be_dismissed() {
+        session.dismiss();
+    }
+    if session.wants_to_write() {
+        let _ = session.on_writable();
+    }
+    if session.wants_take() {
+        session.on_taken(taken(&session, &none), &none);
+    }
+    assert!(rt; session.is_over());
+    assert_eq!(rt; session.end_of_asking(), Some(InEnd::Dismissed));
+    assert_eq!(rt; session.end_of_taking(), Some(TakeEnd::Ended));
+    assert_eq!(rt; session.into_link().written(), b"a".as_slice());
+
+    let mut session = begun(alloc, &[Move::Later])?;
+    if session.wants_to_write() {
+        let _ = session.on_writable();
+    }
+    assert!(rt; !session.is_over());
+    if session.end_of_taking().is_none() {
+        session.cut();
+    }
+    assert!(rt; session.is_over());
+    assert_eq!(rt; session.end_of_taking(), Some(TakeEnd::Late));
+    assert_eq!(rt; session.into_link().written(), b"".as_slice());
     Ok(())
 }

@@ -9,15 +9,16 @@ use Rattle.serve_run.proofs.loops.serve_loop.Goals as goal
 pub returns-clause-serves : goal.returns-clause-serves
 returns-clause-serves g c =
     let told = g.C.Clock.told c.args.clock.now in
+    let terms = c.args.terms in
     let k0 = g.H.HallApi.knows c.args.seat.now in
     let d0 = g.D.ReadyDoor.shows c.args.door.now in
     let w0 = g.W.WaitForLinks.shows c.args.wait.now in
     let counts = c.serve_up_to-end.new.counts in
-    serves_end told c.args.limit (around k0 d0 w0) (g.H.HallApi.knows c.serve_up_to-end.new.seat) (g.D.ReadyDoor.shows c.serve_up_to-end.new.door)
+    serves_end told terms (around k0 d0 w0) (g.H.HallApi.knows c.serve_up_to-end.new.seat) (g.D.ReadyDoor.shows c.serve_up_to-end.new.door)
     (g.W.WaitForLinks.shows c.serve_up_to-end.new.wait) (g.W.WaitForLinks.shows c.end_loop.new.wait) c.serve_up_to-end.new.table.items counts.joined counts.starved
     counts.is_over c.serve_up_to-end.result c.serve_up_to-end.ensures.room
     (c.serve_up_to-end.ensures.turn (around k0 d0 w0)
-    (subst (λ (l : List (Option SessionState)). Holds told (around k0 d0 w0) (loop_state k0 d0 w0 l 0 0 false true)) (sym c.new-table.ensures.items) (holds_at_first told k0 d0 w0)))
+    (subst (λ (l : List (Option SessionState)). Holds told terms (around k0 d0 w0) (loop_state k0 d0 w0 l 0 0 false true)) (sym c.new-table.ensures.items) (holds_at_first told terms k0 d0 w0)))
     c.end_loop.ensures.done
-    (λ rest mid goes_on. c.end_loop.ensures.rest rest told mid (g.D.ReadyDoor.shows c.serve_up_to-end.new.door) counts.joined counts.starved counts.is_over goes_on)
+    (λ rest mid goes_on. c.end_loop.ensures.rest rest told terms mid (g.D.ReadyDoor.shows c.serve_up_to-end.new.door) counts.joined counts.starved counts.is_over goes_on)
     c.end_loop.ensures.faults

@@ -11,9 +11,9 @@ invariant-loop g l = record {
   some : 0 < length l.work.block.items;
   bare : l.work.frames.list ≡ [];
   places : l.work.frames.places ≡ take_frames;
-  room : l.counts.joined ≤ l.limit;
+  room : l.counts.joined ≤ l.terms.limit;
   few : l.counts.starved ≤ l.counts.joined;
-  keeps : Keeps (g.C.Clock.told l.clock)
+  keeps : Keeps (g.C.Clock.told l.clock) l.terms
       (loop_state (g.H.HallApi.knows l.initial.seat) (g.D.ReadyDoor.shows l.initial.door) (g.W.WaitForLinks.shows l.initial.wait) l.initial.table.items l.initial.counts.joined l.initial.counts.starved l.initial.counts.is_over true)
       (loop_state (g.H.HallApi.knows l.seat) (g.D.ReadyDoor.shows l.door) (g.W.WaitForLinks.shows l.wait) l.table.items l.counts.joined l.counts.starved l.counts.is_over true);
 }

@@ -6,7 +6,7 @@ use Rattle.serve_run.proofs.Stepping.{steps_none, steps_closed}
 use Rattle.serve_run.proofs.session_steps.close_once.Goals as goal
 
 pub returns-then-marks-clause-steps : goal.returns-then-marks-clause-steps
-returns-then-marks-clause-steps g c = λ told. steps_none told (g.H.HallApi.knows c.args.seat.now) c.args.session.now
+returns-then-marks-clause-steps g c = λ told. steps_none told ⊥ (g.H.HallApi.knows c.args.seat.now) c.args.session.now
 
 pub returns-clause-steps : goal.returns-clause-steps
 returns-clause-steps g c = λ told.

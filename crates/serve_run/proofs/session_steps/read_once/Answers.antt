@@ -3,7 +3,7 @@ use Rattle.serve_run.proofs.Stepping.{steps_none, steps_read}
 use Rattle.serve_run.proofs.session_steps.read_once.Goals as goal
 
 pub returns-then-not-marks-clause-steps : goal.returns-then-not-marks-clause-steps
-returns-then-not-marks-clause-steps g c = λ told k. steps_none told k c.args.session.now
+returns-then-not-marks-clause-steps g c = λ told k. steps_none told ⊥ k c.args.session.now
 
 pub returns-in-Ok-Bytes-clause-steps : goal.returns-in-Ok-Bytes-clause-steps
 returns-in-Ok-Bytes-clause-steps g c = λ told k.

@@ -2,7 +2,7 @@ use Rattle.serve_run.proofs.Stepping.{steps_none, steps_written}
 use Rattle.serve_run.proofs.session_steps.write_once.Goals as goal
 
 pub returns-then-not-marks : goal.returns-then-not-marks
-returns-then-not-marks g c = record { steps = λ told k. steps_none told k c.args.session.now }
+returns-then-not-marks g c = record { steps = λ told k. steps_none told ⊥ k c.args.session.now }
 
 pub returns : goal.returns
 returns g c = record {

@@ -9,5 +9,6 @@ returns-in-Some-clause-tends g c = λ told timely.
 
 pub returns-in-None-clause-tends : goal.returns-in-None-clause-tends
 returns-in-None-clause-tends g c = λ told timely.
-    tends_all told (g.H.HallApi.knows c.args.seat.now) (g.H.HallApi.knows c.tick-ticked.new.seat) (g.H.HallApi.knows c.step_rewrites.new.seat) c.args.moment
-    c.tick-ticked.result.0 c.step_rewrites.result timely (sym c.serve_end.ensures ∙ c.in-None.is) c.tick-ticked.ensures.entry.adds c.step_rewrites.ensures.rewritten
+    tends_all told (g.H.HallApi.knows c.args.seat.now) (g.H.HallApi.knows c.tick-ticked.new.seat) (g.H.HallApi.knows c.step_rewrites-end.new.seat)
+    c.args.moment c.tick-ticked.result.0 c.step_rewrites-end.result.0 timely (sym c.serve_end.ensures ∙ c.in-None.is) c.tick-ticked.ensures.entry.adds
+    c.step_rewrites-end.ensures.rewritten

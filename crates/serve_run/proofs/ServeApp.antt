@@ -1,0 +1,9 @@
+-- The command is simple.
+use Rattle.std.proofs.Common.{◌≡◌, true, refl}
+use Rattle.clap.specs.Words.{is_simple_and_free}
+use Rattle.clap.proofs.OnLiterals.{clap_on_literals}
+use Rattle.serve_run.specs.Words.{serve_app}
+
+pub serve_is_free : is_simple_and_free serve_app ≡ true
+unfolding serve_app clap_on_literals
+serve_is_free = refl
