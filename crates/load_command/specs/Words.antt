@@ -1,10 +1,17 @@
--- The words of the command line that ask for the generated workload.
-use Rattle.std.specs.Prelude.{ℕ, ◌&&◌, nat_le, List, [], ◌∷◌, Option, Some, None, Result, Ok, Err, codes, bytes_eq, if◌then◌else◌}
+-- The words of the command line that ask for the generated workload, as clap reads them.
+use Rattle.std.specs.Prelude.{ℕ, ◌&&◌, nat_le, List, Option, Some, None, Result, Ok, Err, codes, if◌then◌else◌, option_and_then}
 use Rattle.byte_text.specs.Names.{Bytes}
 use Rattle.byte_text.specs.Numbers.{read_natural}
 use Rattle.byte_text.specs.declared.texts.TextFault.{TextFault}
+use Rattle.clap.specs.Simple.{App, new_app, with_rule}
+use Rattle.clap.specs.Walk.{Row, first_of}
+use Rattle.serve_run.specs.Options.{begins_with, needed_rule, rows_taken}
 use Rattle.load_command.specs.declared.words.LoadWords.{LoadWords}
 use Rattle.load_command.specs.declared.words.TheConstants.{MOST_COMMANDS}
+
+-- `load N SEED`
+unfoldable pub load_app : App
+load_app = with_rule (with_rule (new_app (codes "load")) (needed_rule (codes "n"))) (needed_rule (codes "seed"))
 
 -- at most so many commands are sent
 abbrev pub most_commands : ℕ
@@ -31,7 +38,11 @@ load_with (Some n) (Some seed) = Some (record { commands = n; seed = seed })
 load_with (Some n) None = None
 load_with None seed = None
 
--- `load N SEED`
+-- what was found, where both words are there and name a number
+abbrev pub load_in : List Row → Option LoadWords
+load_in rows = option_and_then (λ n. option_and_then (λ seed. load_with (commands_of n) (seed_of seed)) (first_of (codes "seed") rows))
+    (first_of (codes "n") rows)
+
+-- what the words ask for, where they ask for the workload
 abbrev pub load_of : List Bytes → Option LoadWords
-load_of (word ∷ commands ∷ seed ∷ []) = if bytes_eq word (codes "load") then load_with (commands_of commands) (seed_of seed) else None
-load_of words = None
+load_of words = if begins_with (codes "load") words then option_and_then load_in (rows_taken load_app words) else None

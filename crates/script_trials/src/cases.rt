@@ -4,8 +4,7 @@ use crate::builders::Builder;
 use crate::faults::Fault;
 use crate::looks::Look;
 use byte_text::Text;
-use outside::Side;
-use ready_links::{CallerScript, DoorScript, Named, Visit};
+use outside::{CallerScript, DoorScript, Named, Side, Visit};
 use std::alloc::Global;
 
 /// How a case is played.

@@ -6,7 +6,7 @@ use crate::looks::{Look, side_of};
 use crate::texts::{push_escaped, push_line, push_request, push_text};
 use byte_text::{Text, push_u64};
 use log_sides::NEWEST;
-use ready_links::{CallerScript, Move, Named, Visit};
+use outside::{CallerScript, Move, Named, Visit};
 use script_text::push_frame_line;
 use std::alloc::Global;
 
@@ -226,8 +226,15 @@ fn hear_of_door(case: &mut Case, what: &str) -> Result<(), Fault> {
         "nobody" => case.door.visits.push(Visit::Nobody)?,
         "fails" => case.door.visits.push(Visit::Fails)?,
         "closed" => case.door.opens = false,
+        "stays" => case.door.stays = true,
         _ => return Err(Fault::Line),
     }
+    Ok(())
+}
+
+// The last caller stays behind what it sends.
+fn hear_stays(case: &mut Case) -> Result<(), Fault> {
+    case.caller()?.stays = true;
     Ok(())
 }
 
@@ -259,6 +266,7 @@ fn named_of(word: &str) -> Result<Named, Fault> {
     match word {
         "door" => Ok(Named::Door),
         "waker" => Ok(Named::Waker),
+        "end" => Ok(Named::End),
         _ => match u32::try_from(number(word)?) {
             Ok(place) => Ok(Named::Link(place)),
             Err(_) => Err(Fault::Line),
@@ -368,6 +376,7 @@ fn hear_split(case: &mut Case, word: &str, rest: &str) -> Result<(), Fault> {
         "door" => hear_of_door(case, rest),
         "names" => hear_names(case, rest),
         "lasts" => hear_last(case),
+        "stays" => hear_stays(case),
         "sends" | "sent" | "reads" | "writes" | "told" => hear_of_caller(case, word, rest),
         _ => hear_session(case, word, rest),
     }

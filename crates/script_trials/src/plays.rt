@@ -12,9 +12,9 @@ use crate::texts::{push_escaped, push_last_line, push_line};
 use crate::upgrades::play_upgrade;
 use crate::workloads::play_workload;
 use byte_text::{Text, push_u64};
-use outside::{BytesSink, BytesSource, HandClock, MemoryDisk};
-use ready_links::{
-    CallerScript, DoorScript, Named, ScriptedDoor, ScriptedLink, ScriptedWait, Visit,
+use outside::{
+    BytesSink, BytesSource, CallerScript, DoorScript, HandClock, MemoryDisk, Named, ScriptedDoor,
+    ScriptedLink, ScriptedWait, Visit,
 };
 use std::alloc::Global;
 use std::sync::Wait;

@@ -26,8 +26,8 @@ use Rattle.serve_run.specs.Ends.{IsEnd}
 use Rattle.serve_run.specs.Words.{Serve}
 use Rattle.serve_run.specs.Loops.{around}
 use Rattle.serve_run.specs.LoopServes.{ServesLoop}
-use Rattle.ready_links.specs.Doors.{DoorState}
-use Rattle.ready_links.specs.Waits.{WaitState}
+use Rattle.outside.specs.Doors.{DoorState}
+use Rattle.outside.specs.Waits.{WaitState}
 use Rattle.world_model.specs.declared.events.Opening.{Opening}
 use Rattle.shared_hall.specs.Times.{is_retirement}
 use Rattle.shared_hall.specs.Turns.{retire_outcome}

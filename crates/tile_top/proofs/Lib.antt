@@ -1,2 +1,3 @@
 pub mod Ends
 pub mod Fronting
+pub mod Wanting

@@ -19,8 +19,8 @@ use Rattle.serve_run.specs.Ends.{IsEnd, disk_line}
 use Rattle.serve_run.specs.Words.{Serve}
 use Rattle.serve_run.specs.Loops.{around}
 use Rattle.serve_run.specs.LoopServes.{ServesLoop}
-use Rattle.ready_links.specs.Doors.{DoorState}
-use Rattle.ready_links.specs.Waits.{WaitState}
+use Rattle.outside.specs.Doors.{DoorState}
+use Rattle.outside.specs.Waits.{WaitState}
 use Rattle.shared_hall.specs.Times.{is_retirement}
 use Rattle.replay_run.specs.Openings.{Opens, IsDamagedAt}
 use Rattle.replay_run.specs.declared.halts.Halt.{Halt}

@@ -1,5 +1,5 @@
 -- What the program promises of its words and its status.
-use Rattle.std.specs.Prelude.{◌≡◌, ◌⊎◌, ℕ, Bool, List, [], ◌∷◌, ◌++◌, length, Option, is_some, codes, decimal}
+use Rattle.std.specs.Prelude.{◌≡◌, ◌⊎◌, ℕ, Bool, true, List, [], ◌∷◌, ◌++◌, length, Option, is_some, codes, decimal}
 use mathlib.Core.List.{IsPrefix}
 use Rattle.byte_text.specs.Names.{Bytes}
 use Rattle.outside.specs.Sides.{Sides}
@@ -7,6 +7,7 @@ use Rattle.outside.specs.declared.sides.Side.{Side}
 use Rattle.outside.specs.declared.sides.Side.TheVariants.{A, B}
 use Rattle.world_data.specs.declared.worlds.World.{World}
 use Rattle.serve_run.specs.Ends.{IsEnd, disk_line, memory_line, spent_line}
+use Rattle.serve_run.specs.Options.{begins_with}
 use Rattle.replay_run.specs.Traces.{Deed}
 use Rattle.replay_run.specs.Played.{Played}
 use Rattle.replay_run.specs.Scripts.{opening}
@@ -71,6 +72,12 @@ IsStopped told first Ends ReadFailed left0 left held0 held = IsWithinLine told f
     ⊎ (((part : Bytes) × ((ReadFailed × IsPrefix part read_line) ⊎ IsPrefix part memory_line) × IsBefore told first Ends left0 left held0 held part)
     ⊎ ((halt : Halt) × (part : Bytes) × (IsPrefix part (line_of halt) ⊎ (IsDamage halt × IsPrefix part memory_line))
     × IsCut told first Ends left0 left held0 held halt part)))
+
+-- A list of words that asks for nothing: the line on the usage was written; or memory wanted for reading what stands behind `serve` or `load`,
+-- and that was.
+abbrev pub IsUsage : List Bytes → Option Bytes → Option Bytes → ℕ → Type 0
+IsUsage words held held' status = IsEnd held held' 1 usage_line status
+    ⊎ (((begins_with (codes "serve") words ≡ true) ⊎ (begins_with (codes "load") words ≡ true)) × IsEnd held held' 7 memory_line status)
 
 -- the program's words are this one alone
 abbrev pub IsReplay : List Bytes → Type 0

@@ -11,14 +11,14 @@ ghost use Rattle.log_record.specs.Readings.{Damaged};
 ghost use Rattle.replay_run.specs.HandedBack.{IsBackAt, IsBackUnopened};
 ghost use Rattle.shared_hall.specs.Cores.{tells};
 ghost use Rattle.shared_hall.specs.Seats.{IsOf, handed_of, knows_of};
+ghost use Rattle.serve_run.specs.Words.{asked_of};
 ghost use Rattle.tile_top.specs.Fronts.{EndsBehind, Fronts, IsCounted, IsDue, IsFirst, IsLeft, IsRetired, ServesFront};
 
 use crate::halt_ends::end_halt;
 use crate::tops::Ended;
 use durable_core::DurableCore;
 use journal::{OpenFault, Unopened};
-use outside::{Clock, Disk, Sink};
-use ready_links::{ReadyDoor, WaitForLinks};
+use outside::{Clock, Disk, ReadyDoor, Sink, WaitForLinks};
 use replay_run::halt_of;
 use serve_run::{DISK_FAULT, ServeWords, end, serve_ready};
 use shared_hall::{HallSeat, SharedHall};
@@ -131,7 +131,7 @@ where
     requires first { (knows_of seat).first ≡ true }
     ensures serves { (seen : Option Sides) → IsFirst seen (knows_of seat)
         → IfSome (option_map knows_of result.front) (ServesFront seen (C.told clock.now)
-        (record { addr = asked.entry.addr.now; limit = asked.entry.limit })
+        (asked_of asked.entry)
         (L.shows door.old) (L.shows door.new) (W.shows wait.old) (W.shows wait.new)
         (K.held sink.old) (K.held sink.new) result.status) }
     ensures safe { tells D.crashes D.seen (handed_of hall.now) ≡ true
@@ -176,7 +176,7 @@ where
     ensures serves { Fronts (D.seen disk)
         (λ halt. IfSome result.disk (λ d. IsBackAt D.crashes D.seen D.images D.moment D.left_since disk d halt))
         (C.told clock.now)
-        (record { addr = asked.entry.addr.now; limit = asked.entry.limit })
+        (asked_of asked.entry)
         (L.shows door.old) (L.shows door.new) (W.shows wait.old) (W.shows wait.new)
         (K.held sink.old) (K.held sink.new) result.status (option_map knows_of result.front) }
     ensures safe { tells D.crashes D.seen disk ≡ true

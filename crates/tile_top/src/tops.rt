@@ -14,7 +14,7 @@ ghost use Rattle.replay_run.specs.HandedBack.{HoldsWorld, IsBackAt};
 ghost use Rattle.replay_run.specs.Checks.{IsLookedAt};
 ghost use Rattle.shared_hall.specs.Cores.{tells};
 ghost use Rattle.shared_hall.specs.Seats.{knows_of};
-ghost use Rattle.tile_top.specs.Tops.{IsReplay, IsCheck, Replays, usage_line};
+ghost use Rattle.tile_top.specs.Tops.{IsReplay, IsCheck, IsUsage, Replays};
 ghost use Rattle.tile_top.specs.Backtests.{Backtests, IsBacktest, IsReadAlone};
 ghost use Rattle.tile_top.specs.Checks.{Checks};
 ghost use Rattle.tile_top.specs.Fronts.{Fronts, IsCounted, IsDue, IsLeft};
@@ -24,9 +24,9 @@ use crate::checks::check_disk;
 use crate::loads::load_core;
 use crate::replays::{Scripted, replay_script};
 use crate::serves::serve_hall;
+use byte_text::NoMemory;
 use load_command::load_words;
-use outside::{Clock, Disk, Sink, Source};
-use ready_links::{ReadyDoor, WaitForLinks};
+use outside::{Clock, Disk, ReadyDoor, Sink, Source, WaitForLinks};
 use serve_run::{OUT_OF_MEMORY, end, serve_words};
 use shared_hall::HallSeat;
 use std::alloc::Global;
@@ -87,12 +87,19 @@ pub fn out_of_memory<K: Sink, D: Disk + Drop>(sink: &mut K) -> Ended<D>
 
 /// Does what the words ask for, the words after the program's name: `replay` plays the script that the source gives on
 /// the world of the disk, and writes its output to the sink. `check` opens the disk, and writes what it has. `serve
-/// ADDR`, which `--sessions N` may follow, opens the door at the address and serves callers in a loop on one hall of the
-/// disk's world, up to N of them, from 1 to 1,000,000,000, or up to an end. `load N SEED` drives a core of its own with
-/// the generated workload of N commands, from 1 to 1,000,000, and writes its summary. `backtest` reads from the source
-/// which fence is asked for, and writes what it would have raised over the changes of the disk's log. Every other list
-/// of words is answered by a line on the usage and status 1. Nothing is read but with `replay` and `backtest`, and the
-/// disk is left alone but with all of these but `load`.
+/// ADDR` opens the door at the address and serves callers in a loop on one hall of the disk's world, up to an end.
+/// `load N SEED` drives a core of its own with the generated workload of N commands, from 1 to 1,000,000, and writes
+/// its summary. `backtest` reads from the source which fence is asked for, and writes what it would have raised over
+/// the changes of the disk's log. Every other list of words is answered by a line on the usage and status 1. Nothing is
+/// read but with `replay` and `backtest`, and the disk is left alone but with all of these but `load`.
+///
+/// The words behind `serve` and `load` are what `clap` takes of them, and each number is canonical. Options of `serve`
+/// stand in any order, before or behind ADDR, each at most once: with `--sessions N`, from 1 to 1,000,000,000, N
+/// callers are served at most; with `--idle SECONDS`, from 1 to 1,000,000,000, links that were idle for so long are
+/// dismissed; with `--shrink-at PERCENT`, from 0 to 1,000,000, the log is rewritten when it has grown by so many per
+/// cent, 100 where nothing is said, and never with 0; with `--until-stdin-ends` the end may be asked for, as the one
+/// that waits tells. Reading them takes memory: where that wants, the line of status 7 is written, also where the words
+/// ask for nothing, and nothing else is done.
 ///
 /// Where a disk is opened. It begins with the world that the disk is recovered as, where it tells what it holds; else
 /// with some sound world. Status 6 comes exactly where its sides are damaged, and its line says where; 5 comes only
@@ -131,26 +138,31 @@ pub fn out_of_memory<K: Sink, D: Disk + Drop>(sink: &mut K) -> Ended<D>
 ///
 /// With `serve`. All entries that the server's seat has seen are a legal history that opens with the disk's world, and
 /// its own are those of the loop's steps, in their order: a tick and as many steps of rewriting as the loop makes
-/// behind each; the entering of a session for a caller; the calls of a session in one turn; a take of a session; its
-/// closing; its removal; then, where a tick or a step of rewriting brought the end, a tick and the steps up to that
-/// one; and then the retirement. The door was opened at the address that was asked for; where it could not be, it
-/// stands open where it did before. Each caller who came bears the next number of the door, and is the caller of
-/// exactly one link. No link is left open: the one that waits, where it tells which links were shut, tells these behind
-/// those before, each as it was then, but for those for whose telling it had no memory. Of each link one of these
-/// holds. No session was entered for it; or one was, and was removed at once, for want of memory or because the link
-/// could not be watched, which comes only where the one that waits has failed; then the link is as it came. Or it was
-/// served as one session: the calls of that session are those of the requests of the bytes that were read of the link,
-/// in order, each once but again while it is answered Full, up to an end that is named; and what the link was written
-/// is what the takes of that session gave, in order: all of it where the takes came to an end, and a first part of it
-/// where the link failed, where memory ran out, or where the loop ended first.
+/// behind each; the entering of a session of the server's own, which asks for AOFSHRINK, and its removal, or an
+/// entering for that which was refused; the entering of a session for a caller; the calls of a session in one turn; a
+/// take of a session; its closing; its removal; then, where a tick or a step of rewriting brought the end, a tick and
+/// the steps up to that one, or, where the answer to AOFSHRINK brought it, the entering, the asking and the removal;
+/// and then the retirement. The door was opened at the address that was asked for; where it could not be, it stands
+/// open where it did before. Each caller who came bears the next number of the door, and is the caller of exactly one
+/// link. No link is left open: the one that waits, where it tells which links were shut, tells these behind those
+/// before, each as it was then, but for those for whose telling it had no memory. Of each link one of these holds. No
+/// session was entered for it; or one was, and was removed at once, for want of memory or because the link could not be
+/// watched, which comes only where the one that waits has failed; then the link is as it came. Or it was served as one
+/// session: the calls of that session are those of the requests of the bytes that were read of the link, in order, each
+/// once but again while it is answered Full, up to an end that is named; and what the link was written is what the
+/// takes of that session gave, in order: all of it where the takes came to an end, and a first part of it where the
+/// link failed or was cut early, where memory ran out, or where the loop ended first. That the server dismisses a link,
+/// that is ends its asking by itself, or cuts it early comes only where there is an idle limit, or where the end may be
+/// asked for and was.
 ///
-/// Status 0: the door told its end, or N callers came, and all links went on to their own ends; the bytes written are
-/// the lines `listening ADDR`, `served N`, and `starved M` where sessions were removed for want of memory. Status 8
-/// comes only where the door has failed or the one that waits has, 5 where a tick or a step of rewriting found the hall
-/// stopped, or the log failed at the retirement, 9 where one found the machine's log at its greatest length, 7 where
-/// memory wanted, 4 where the sink failed. Where the disk tells what it holds and what a crash may leave, the disk that
-/// is handed back is safe for all that the seat has seen. Where the retirement was not answered Stopped, as at status
-/// 0, or is the only one that the seat has seen, the disk is handed back, and its count of faults is the one that the
+/// Status 0: the door told its end, or N callers came, or the end may be asked for and was, and all links went on to
+/// their own ends, or to those by which the server dismissed or cut them; the bytes written are the lines `listening
+/// ADDR`, `served N`, and `starved M` where sessions were removed for want of memory. Status 8 comes only where the
+/// door has failed or the one that waits has, 5 where a tick, a step of rewriting or AOFSHRINK found the hall stopped,
+/// or the log failed at the retirement, 9 where one found the machine's log at its greatest length, 7 where memory
+/// wanted, 4 where the sink failed. Where the disk tells what it holds and what a crash may leave, the disk that is
+/// handed back is safe for all that the seat has seen. Where the retirement was not answered Stopped, as at status 0,
+/// or is the only one that the seat has seen, the disk is handed back, and its count of faults is the one that the
 /// history ends with; where it was answered Ok, whatever a crash leaves of it is the world of all of that.
 ///
 /// With `backtest`. Status 11 comes exactly where what the source had left is not the text of one request that reads as
@@ -220,7 +232,7 @@ where
         (λ w. Loads w (K.held sink.old) (K.held sink.new) result.status) }
     ensures usage { (IsReplay (map string_bytes words.now) → ⊥) → (IsCheck (map string_bytes words.now) → ⊥)
         → (IsBacktest (map string_bytes words.now) → ⊥) → serve_of (map string_bytes words.now) ≡ None → load_of (map string_bytes words.now) ≡ None
-        → IsEnd (K.held sink.old) (K.held sink.new) 1 usage_line result.status }
+        → IsUsage (map string_bytes words.now) (K.held sink.old) (K.held sink.new) result.status }
     ensures unread { (IsReplay (map string_bytes words.now) → ⊥) → (IsBacktest (map string_bytes words.now) → ⊥)
         → source.new ≡ source.old }
     ensures untouched { (IsReplay (map string_bytes words.now) → ⊥) → (IsCheck (map string_bytes words.now) → ⊥)
@@ -240,23 +252,25 @@ where
     ensures accept { result.status ≡ 8 → Rose (L.shows door.old).faults (L.shows door.new).faults
         ⊎ Rose (W.shows wait.old).faults (W.shows wait.new).faults }
 {
-    match serve_words(words) {
-        Some(asked) => serve_hall(rt, alloc, asked, sink, disk, door, clock, wait),
-        None if is_alone(words, "replay") => {
+    match serve_words(alloc, words) {
+        Err(NoMemory) => without_hall(end(sink, 7, OUT_OF_MEMORY), disk),
+        Ok(Some(asked)) => serve_hall(rt, alloc, asked, sink, disk, door, clock, wait),
+        Ok(None) if is_alone(words, "replay") => {
             let scripted = replay_script(alloc, source, sink, disk);
             without_hall(scripted.status, scripted.disk)
         }
-        None if is_alone(words, "check") => {
+        Ok(None) if is_alone(words, "check") => {
             let scripted = check_disk(alloc, sink, disk);
             without_hall(scripted.status, scripted.disk)
         }
-        None if is_alone(words, "backtest") => {
+        Ok(None) if is_alone(words, "backtest") => {
             let scripted = backtest_disk(rt, alloc, source, sink, disk);
             without_hall(scripted.status, scripted.disk)
         }
-        None => match load_words(words) {
-            Some(asked) => without_hall(load_core(alloc, asked, sink), disk),
-            None => without_hall(end(sink, 1, USAGE), disk),
+        Ok(None) => match load_words(alloc, words) {
+            Err(NoMemory) => without_hall(end(sink, 7, OUT_OF_MEMORY), disk),
+            Ok(Some(asked)) => without_hall(load_core(alloc, asked, sink), disk),
+            Ok(None) => without_hall(end(sink, 1, USAGE), disk),
         },
     }
 }
