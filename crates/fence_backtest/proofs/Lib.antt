@@ -1,5 +1,6 @@
-pub mod Telling
+pub mod ReportLaws
 pub mod Tables
+pub mod Cutting
 pub mod RecordsRead
 pub mod LineLaws
 pub mod ZoneLaws

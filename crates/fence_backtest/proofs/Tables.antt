@@ -1,30 +1,28 @@
--- A table of the places of puts goes with the world.
-use Rattle.std.proofs.Common.{◌≡◌, ◌∙◌, ℕ, ◌==◌, ◌&&◌, ◌||◌, Bool, true, false, not, List, [], ◌∷◌, ◌++◌, filter, Option, Some, None, refl, sym, ap, subst, cond}
+-- The places of puts go with the world.
+use Rattle.std.proofs.Common.{◌≡◌, ◌∙◌, ◌<◌, ◌≤◌, ℕ, zero, suc, ◌+◌, ◌-◌, ◌*◌, ◌^◌, min, ◌==◌, ◌&&◌, ◌||◌, Bool, true, false, not, List, [], ◌∷◌, ◌++◌, take, length, filter, Option, Some, None, refl, sym, ap, subst, cond, arith}
 use Rattle.std.specs.Prelude.{slice_get, if◌then◌else◌, find, Result, Ok, Err, IfOk, OnOk}
 use Rattle.std.specs.Cmp.Lexicographic.{pointwise}
-use Rattle.std.specs.HashMap.{HashMap, get, get_by, Updates, UpdatesBy, IsEmpty}
+use Rattle.std.specs.List.{AllZip, range_with_len}
 use Rattle.std.specs.Map.{lookup}
 use Rattle.byte_text.specs.Names.{Bytes, same, before}
 use Rattle.byte_text.specs.ByteOrder.{before_self, before_tie, same_equal, same_refl}
 use Rattle.ordered_lists.specs.Lists.{put_in}
-use Rattle.world_data.specs.Worlds.{after, has_key, is_at, object_at, object_before}
+use Rattle.world_data.specs.Worlds.{after, empty_world, has_key, is_at, object_at, object_before}
 use Rattle.world_data.specs.declared.channels.Channel.{Channel}
 use Rattle.world_data.specs.declared.objects.Object.{Object}
 use Rattle.world_data.specs.declared.worlds.Change.{Change}
 use Rattle.world_data.specs.declared.worlds.Change.TheVariants.{Put, Del, Drop, Flush, SetChan, DelChan}
 use Rattle.world_data.specs.declared.worlds.World.{World}
+use Rattle.log_record.specs.EventWriteLaws.{folded-append}
+use Rattle.log_record.specs.Folding.{folded}
+use Rattle.fence_backtest.specs.Cuts.{IsCut, front, part}
 use Rattle.fence_backtest.specs.Outcomes.{object_of, object_put}
 use Rattle.fence_backtest.specs.Reports.{stood}
-use Rattle.fence_backtest.specs.Standing.{AreStood, IsTable, StoodSo}
-use Rattle.log_record.specs.Folding.{folded}
-
--- one more change
-pub stood_more : (key : Bytes) (all : List Change) (w : World) (changes : List Change) (olds : List (Option ℕ)) (change : Change) (old : Option ℕ)
-    → AreStood key all w changes olds → object_put all old ≡ stood key (folded w changes) change → AreStood key all w (changes ++ change ∷ []) (olds ++ old ∷ [])
-stood_more key all w [] [] change old are is = (is, tt)
-stood_more key all w [] (o ∷ olds) change old are is = absurd are
-stood_more key all w (c ∷ changes) [] change old are is = absurd are
-stood_more key all w (c ∷ changes) (o ∷ olds) change old are is = (are.0, stood_more key all (after w c) changes olds change old are.1 is)
+use Rattle.fence_backtest.specs.Standing.{AreStood, AreStretches, IsPlaced, IsStretch, IsStretchAt, Known, StoodSo, WentSo, behind, by_before, nowhere, old_of, places_behind, stood_here}
+use Rattle.fence_backtest.specs.declared.standing.Stood.{Stood}
+use Rattle.fence_backtest.specs.declared.standing.Stood.TheVariants.{Here}
+use Rattle.fence_backtest.proofs.Cutting.{front_more, front_none, got, part_min, zip_at, zip_count}
+use Rattle.fence_backtest.proofs.LineLaws.{take_more}
 
 -- what is found in a list
 
@@ -154,68 +152,172 @@ module _ (key : Bytes) (changes : List Change) (w : World) where
   not_same a b true e apart = absurd (apart (same_equal a b e))
   not_same a b false e apart = refl
 
-module _ {S : Type 0} (key : Bytes) (changes : List Change) (w : World) where
-  pub stood_put : (table next : HashMap Bytes ℕ S) (at : ℕ) (o : Object) (old : Option ℕ) → same o.key key ≡ true → slice_get changes at ≡ Some (Put o) → IsTable key changes table w
-      → old ≡ get eq table o.id → Updates eq table next o.id (Some at) → StoodSo key changes next w (Put o) old
-  stood_put table next at o old own here is found updates = record {
-    stood_is = ap (object_put changes) found ∙ is o.id ∙ ap (λ (b : Bool). if b then object_at w key o.id else None) (sym own);
-    next = λ id. ap (object_put changes) (updates.0 id) ∙ by_id key changes w at o (eq o.id id) (get eq table id) (object_at w key id) here (is id) ∙ sym (own_key key changes w o own id);
+-- what is named is behind what was named, but at one id
+named_more : (t emptied : Bool) (place before : Option ℕ) (there : Option (Option ℕ))
+    → by_before before (stood_here (cond t (Some place) there) emptied) ≡ cond t place (by_before before (stood_here there emptied))
+named_more true emptied place before there = refl
+named_more false emptied place before there = refl
+
+abbrev Named : Type 0
+Named = List (Bytes × Option ℕ)
+
+abbrev Renamed : Named → Named → Bytes → Option ℕ → Type 0
+Renamed named next id place = (name : Bytes) → lookup (eq name) next ≡ cond (eq id name) (Some place) (lookup (eq name) named)
+
+module _ (key : Bytes) (changes : List Change) (w : World) (places : Bytes → Option ℕ) where
+  renamed : (named next : Named) (emptied : Bool) (id : Bytes) (place : Option ℕ) → Renamed named next id place → (name : Bytes)
+      → behind next emptied places name ≡ cond (eq id name) place (behind named emptied places name)
+  renamed named next emptied id place more name =
+      ap (λ (there : Option (Option ℕ)). by_before (places name) (stood_here there emptied)) (more name) ∙ named_more (eq id name) emptied place (places name) (lookup (eq name) named)
+
+  pub stood_put : (named next : Named) (emptied : Bool) (at : ℕ) (o : Object) (old : Stood) → same o.key key ≡ true → slice_get changes at ≡ Some (Put o)
+      → IsPlaced key changes (behind named emptied places) w → old ≡ stood_here (lookup (eq o.id) named) emptied → Renamed named next o.id (Some at)
+      → StoodSo key changes places next emptied w (Put o) old
+  stood_put named next emptied at o old own here is found more = record {
+    stood_is = ap (λ (x : Stood). object_put changes (by_before (places o.id) x)) found ∙ is o.id ∙ ap (λ (b : Bool). if b then object_at w key o.id else None) (sym own);
+    next = λ id. ap (object_put changes) (renamed named next emptied o.id (Some at) more id)
+        ∙ by_id key changes w at o (eq o.id id) (behind named emptied places id) (object_at w key id) here (is id) ∙ sym (own_key key changes w o own id);
   }
 
-  pub stood_put_else : (table : HashMap Bytes ℕ S) (o : Object) → same o.key key ≡ false → IsTable key changes table w → StoodSo key changes table w (Put o) None
-  stood_put_else table o other is = record {
+  pub stood_put_else : (named : Named) (emptied : Bool) (o : Object) → same o.key key ≡ false → IsPlaced key changes (behind named emptied places) w
+      → StoodSo key changes places named emptied w (Put o) (Here None)
+  stood_put_else named emptied o other is = record {
     stood_is = ap (λ (b : Bool). if b then object_at w key o.id else None) (sym other);
     next = λ id. is id ∙ sym (other_key key changes w o other id);
   }
 
-  pub stood_del : (table next : HashMap Bytes ℕ S) (other id : Bytes) (old : Option ℕ) → same other key ≡ true → IsTable key changes table w
-      → old ≡ get_by (eq id) table → UpdatesBy eq (eq id) table next None → StoodSo key changes next w (Del other id) old
-  stood_del table next other id old own is found updates = record {
-    stood_is = ap (object_put changes) found ∙ is id ∙ ap (λ (b : Bool). if b then object_at w key id else None) (sym own);
-    next = λ name. ap (object_put changes) (updates.0 name)
-        ∙ gone_id key changes w (eq id name) (get eq table name) (object_at w key name) (object_at (after w (Del other id)) key name) (is name) (own_del key changes w other id name own)
+  pub stood_del : (named next : Named) (emptied : Bool) (other id : Bytes) (old : Stood) → same other key ≡ true → IsPlaced key changes (behind named emptied places) w
+      → old ≡ stood_here (lookup (eq id) named) emptied → Renamed named next id None → StoodSo key changes places next emptied w (Del other id) old
+  stood_del named next emptied other id old own is found more = record {
+    stood_is = ap (λ (x : Stood). object_put changes (by_before (places id) x)) found ∙ is id ∙ ap (λ (b : Bool). if b then object_at w key id else None) (sym own);
+    next = λ name. ap (object_put changes) (renamed named next emptied id None more name)
+        ∙ gone_id key changes w (eq id name) (behind named emptied places name) (object_at w key name) (object_at (after w (Del other id)) key name) (is name) (own_del key changes w other id name own)
         (λ e. else_del key changes w other id name (λ y at. not_at (same y.key other) (same y.id id) (not_same key changes w y.id id (same y.id id) refl (λ i. differs key changes w id name e (sym (at_key key name y at).1 ∙ i)))));
   }
 
-  pub stood_del_else : (table : HashMap Bytes ℕ S) (other id : Bytes) → same other key ≡ false → IsTable key changes table w → StoodSo key changes table w (Del other id) None
-  stood_del_else table other id else_key is = record {
+  pub stood_del_else : (named : Named) (emptied : Bool) (other id : Bytes) → same other key ≡ false → IsPlaced key changes (behind named emptied places) w
+      → StoodSo key changes places named emptied w (Del other id) (Here None)
+  stood_del_else named emptied other id else_key is = record {
     stood_is = ap (λ (b : Bool). if b then object_at w key id else None) (sym else_key);
     next = λ name. is name ∙ sym (else_del key changes w other id name (λ y at.
         let apart : same y.key other ≡ false = not_same key changes w y.key other (same y.key other) refl (λ i. differs key changes w other key else_key (sym (at_key key name y at).0 ∙ i)) in
         rw apart refl));
   }
 
-  emptied : (table : HashMap Bytes ℕ S) → IsEmpty table → (id : Bytes) → get eq table id ≡ None
-  emptied table none id = ap (lookup (eq id)) none
+  emptied_now : (named : Named) → named ≡ [] → (id : Bytes) → behind named true places id ≡ None
+  emptied_now named none id = ap (λ (l : Named). behind l true places id) none
 
-  pub stood_drop : (next : HashMap Bytes ℕ S) (other : Bytes) → same other key ≡ true → IsEmpty next → StoodSo key changes next w (Drop other) None
-  stood_drop next other own none = record {
+  pub stood_drop : (named : Named) (other : Bytes) → same other key ≡ true → named ≡ [] → StoodSo key changes places named true w (Drop other) (Here None)
+  stood_drop named other own none = record {
     stood_is = refl;
-    next = λ name. ap (object_put changes) (emptied next none name) ∙ sym (found_gone (is_at key name) (has_key other) (λ y at.
+    next = λ name. ap (object_put changes) (emptied_now named none name) ∙ sym (found_gone (is_at key name) (has_key other) (λ y at.
         ap (λ (k : Bytes). same k other) (at_key key name y at).0 ∙ ap (same key) (same_equal other key own) ∙ same_refl key) w.objects);
   }
 
-  pub stood_drop_else : (table : HashMap Bytes ℕ S) (other : Bytes) → same other key ≡ false → IsTable key changes table w → StoodSo key changes table w (Drop other) None
-  stood_drop_else table other else_key is = record {
+  pub stood_drop_else : (named : Named) (emptied : Bool) (other : Bytes) → same other key ≡ false → IsPlaced key changes (behind named emptied places) w
+      → StoodSo key changes places named emptied w (Drop other) (Here None)
+  stood_drop_else named emptied other else_key is = record {
     stood_is = refl;
     next = λ name. is name ∙ sym (found_kept (is_at key name) (has_key other) (λ y at.
         not_same key changes w y.key other (same y.key other) refl (λ i. differs key changes w other key else_key (sym (at_key key name y at).0 ∙ i))) w.objects);
   }
 
-  pub stood_flush : (next : HashMap Bytes ℕ S) → IsEmpty next → StoodSo key changes next w Flush None
-  stood_flush next none = record { stood_is = refl; next = λ name. ap (object_put changes) (emptied next none name) }
+  pub stood_flush : (named : Named) → named ≡ [] → StoodSo key changes places named true w Flush (Here None)
+  stood_flush named none = record { stood_is = refl; next = λ name. ap (object_put changes) (emptied_now named none name) }
 
-  pub stood_set : (table : HashMap Bytes ℕ S) (c : Channel) → IsTable key changes table w → StoodSo key changes table w (SetChan c) None
-  stood_set table c is = record { stood_is = refl; next = is }
+  pub stood_set : (named : Named) (emptied : Bool) (c : Channel) → IsPlaced key changes (behind named emptied places) w
+      → StoodSo key changes places named emptied w (SetChan c) (Here None)
+  stood_set named emptied c is = record { stood_is = refl; next = is }
 
-  pub stood_end : (table : HashMap Bytes ℕ S) (name : Bytes) → IsTable key changes table w → StoodSo key changes table w (DelChan name) None
-  stood_end table name is = record { stood_is = refl; next = is }
+  pub stood_end : (named : Named) (emptied : Bool) (name : Bytes) → IsPlaced key changes (behind named emptied places) w
+      → StoodSo key changes places named emptied w (DelChan name) (Here None)
+  stood_end named emptied name is = record { stood_is = refl; next = is }
+
+  -- the same for a change under another name
+  pub stood_as : (named : Named) (emptied : Bool) (old : Stood) (change other : Change) → other ≡ change → StoodSo key changes places named emptied w change old
+      → StoodSo key changes places named emptied w other old
+  stood_as named emptied old change other is stood_is = subst (λ (z : Change). StoodSo key changes places named emptied w z old) (sym is) stood_is
 
 pub if_ok_both : {T E : Type 0} (r : Result T E) (P R : T → Type 0) (Q : Type 0) → ((x : T) → P x → Q → R x) → IfOk r P → OnOk r Q → IfOk r R
 if_ok_both (Ok x) P R Q f p q = f x p q
 if_ok_both (Err e) P R Q f p q = tt
 
--- the same for a change under another name
-pub stood_as : {S : Type 0} (key : Bytes) (changes : List Change) (table : HashMap Bytes ℕ S) (w : World) (old : Option ℕ) (change other : Change) → other ≡ change
-    → StoodSo key changes table w change old → StoodSo key changes table w other old
-stood_as key changes table w old change other is stood_is = subst (λ (z : Change). StoodSo key changes table w z old) (sym is) stood_is
+-- stretches
+
+-- before the first change of a stretch
+pub went_none : (key : Bytes) (all : List Change) (places : Bytes → Option ℕ) (w : World) → IsPlaced key all places w → WentSo key all places w [] [] false []
+went_none key all places w placed = record { next = placed; olds_are = tt }
+
+stood_more : (key : Bytes) (all : List Change) (places : Bytes → Option ℕ) (w : World) (changes : List Change) (olds : List Stood) (change : Change) (old : Stood)
+    → AreStood key all places w changes olds → object_put all (old_of places change old) ≡ stood key (folded w changes) change
+    → AreStood key all places w (changes ++ change ∷ []) (olds ++ old ∷ [])
+stood_more key all places w [] [] change old are is = (is, tt)
+stood_more key all places w [] (o ∷ olds) change old are is = absurd are
+stood_more key all places w (c ∷ changes) [] change old are is = absurd are
+stood_more key all places w (c ∷ changes) (o ∷ olds) change old are is = (are.0, stood_more key all places (after w c) changes olds change old are.1 is)
+
+-- one more change
+pub went_more : (key : Bytes) (all : List Change) (places : Bytes → Option ℕ) (w : World) (changes : List Change) (i : ℕ) (change : Change) (named next : Named) (emptied now : Bool)
+    (olds : List Stood) (old : Stood) → slice_get changes i ≡ Some change → WentSo key all places w (take i changes) named emptied olds
+    → StoodSo key all places next now (folded w (take i changes)) change old → WentSo key all places w (take (i + 1) changes) next now (olds ++ old ∷ [])
+went_more key all places w changes i change named next emptied now olds old here went so =
+    let step : i + 1 ≡ suc i = omega arith in
+    let more : take (i + 1) changes ≡ take i changes ++ change ∷ [] = ap (λ n. take n changes) step ∙ take_more changes i change here in
+    subst (λ (l : List Change). WentSo key all places w l next now (olds ++ old ∷ [])) (sym more) (record {
+      next = subst (IsPlaced key all (behind next now places)) (sym (folded-append w (take i changes) (change ∷ []))) so.next;
+      olds_are = stood_more key all places w (take i changes) olds change old went.olds_are so.stood_is;
+    })
+
+-- the places behind one stretch more
+pub places_more : (places : Bytes → Option ℕ) (stretches : List Known) (s : Known) → places_behind places (stretches ++ s ∷ []) ≡ behind s.named s.emptied (places_behind places stretches)
+places_more places [] s = refl
+places_more places (r ∷ stretches) s = places_more (behind r.named r.emptied places) stretches s
+
+pub stretch_is_at : (key : Bytes) (all : List Change) (size : ℕ) (stretches : List Known) (k : ℕ) (s : Known) → AllZip (IsStretchAt key all size) (range_with_len 0 (length stretches)) stretches
+    → slice_get stretches k ≡ Some s → IsStretchAt key all size k s
+stretch_is_at key all size stretches k s are here =
+    let none : 0 + k ≡ k = omega arith in
+    subst (λ (n : ℕ). IsStretchAt key all size n s) none (zip_at (IsStretchAt key all size) 0 (length stretches) stretches k s are here)
+
+-- so the places behind the first stretches are those of the world behind their changes
+pub placed : (key : Bytes) (all : List Change) (size : ℕ) (stretches : List Known) (k : ℕ) → AllZip (IsStretchAt key all size) (range_with_len 0 (length stretches)) stretches
+    → k ≤ length stretches → IsPlaced key all (places_behind nowhere (take k stretches)) (folded empty_world (front all size k))
+placed key all size stretches zero are within = λ id. sym (ap (λ (l : List Change). object_at (folded empty_world l) key id) (front_none all size))
+placed key all size stretches (suc k) are within =
+    let here = got stretches k (omega (arith, within)) in
+    let s = here.0 in
+    let at = stretch_is_at key all size stretches k s are here.1 in
+    let before = placed key all size stretches k are (omega (arith, within)) in
+    let went = at.goes (places_behind nowhere (take k stretches)) (folded empty_world (front all size k)) before in
+    let places : places_behind nowhere (take (suc k) stretches) ≡ behind s.named s.emptied (places_behind nowhere (take k stretches)) =
+    ap (places_behind nowhere) (take_more stretches k s here.1) ∙ places_more nowhere (take k stretches) s in
+    let world : folded empty_world (front all size (suc k)) ≡ folded (folded empty_world (front all size k)) (part all s.from (length s.olds)) =
+    ap (folded empty_world) (front_more all size k) ∙ folded-append empty_world (front all size k) (part all (k * size) size)
+    ∙ ap (folded (folded empty_world (front all size k))) (sym at.part_is) in
+    subst (λ (f : Bytes → Option ℕ). IsPlaced key all f (folded empty_world (front all size (suc k)))) (sym places)
+    (subst (IsPlaced key all (behind s.named s.emptied (places_behind nowhere (take k stretches)))) (sym world) went.next)
+
+pub if_ok_three : {T E : Type 0} (r : Result T E) (P Q R S : T → Type 0) → ((x : T) → P x → Q x → R x → S x) → IfOk r P → IfOk r Q → IfOk r R → IfOk r S
+if_ok_three (Ok x) P Q R S f p q r = f x p q r
+if_ok_three (Err e) P Q R S f p q r = tt
+
+-- the stretch of a number is one of so many changes from its place on
+pub is_stretch_at : (key : Bytes) (all : List Change) (size at len : ℕ) (s : Known) → at * size < length all → len ≡ min size (length all - at * size) → s.from ≡ at * size
+    → (length s.olds ≡ len) × (at * size + len < 2 ^ 64) → IsStretch key all s → IsStretchAt key all size at s
+is_stretch_at key all size at len s inside is from_is long goes = record {
+  from_is = from_is;
+  within = omega (arith, inside, is, from_is, long.0);
+  fits = subst (λ (n : ℕ). n < 2 ^ 64) (ap (λ (n : ℕ). n + len) (sym from_is) ∙ ap (λ (n : ℕ). s.from + n) (sym long.0)) long.1;
+  part_is = ap (λ (n : ℕ). part all s.from n) long.0 ∙ ap (λ (n : ℕ). part all n len) from_is ∙ part_min all (at * size) size len is;
+  goes = goes;
+}
+
+-- all of them, by their cuts
+pub are_stretches : (key : Bytes) (all : List Change) (size count : ℕ) (stretches : List Known) → IsCut (length all) count size
+    → AllZip (IsStretchAt key all size) (range_with_len 0 count) stretches → AreStretches key all size stretches
+are_stretches key all size count stretches cut each =
+    let as_many : count ≡ length stretches = sym (zip_count (IsStretchAt key all size) 0 count stretches each) in
+    record {
+      cut = subst (λ (n : ℕ). IsCut (length all) n size) as_many cut;
+      each = subst (λ (n : ℕ). AllZip (IsStretchAt key all size) (range_with_len 0 n) stretches) as_many each;
+    }

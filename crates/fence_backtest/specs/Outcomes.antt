@@ -1,7 +1,6 @@
 -- What a change came to, by the place of the put whose object stood there.
-use Rattle.std.specs.Prelude.{◌≡◌, ◌<◌, ℕ, ◌+◌, ◌*◌, ◌==◌, Bool, false, ◌&&◌, List, [], ◌∷◌, ◌++◌, slice_get, slice_index, length, map, filter, flat_map, Option, Some, None}
+use Rattle.std.specs.Prelude.{◌≡◌, ◌<◌, ℕ, ◌+◌, ◌*◌, ◌==◌, Bool, false, ◌&&◌, List, [], ◌∷◌, slice_get, slice_index, length, filter, Option, Some, None}
 use Rattle.std.specs.Prelude.{if◌then◌else◌}
-use Rattle.std.specs.List.{AllZip, range_with_len}
 use Rattle.byte_text.specs.Names.{Bytes, same}
 use Rattle.planar_geom.specs.Points.{Point, Bounds, in_box}
 use Rattle.world_data.specs.declared.channels.Channel.{Channel}
@@ -11,7 +10,7 @@ use Rattle.world_data.specs.declared.worlds.Change.{Change}
 use Rattle.world_data.specs.declared.worlds.Change.TheVariants.{Put, Del, Drop, Flush, SetChan, DelChan}
 use Rattle.fence_model.specs.Fences.{place_of}
 use Rattle.fence_table.specs.Pairs.{items}
-use Rattle.fence_backtest.specs.Reports.{eighth, grid_text, lines_of, raised_by, total_line}
+use Rattle.fence_backtest.specs.Reports.{eighth, raised_by}
 use Rattle.fence_backtest.specs.declared.grids.Cell.{Cell}
 use Rattle.fence_backtest.specs.declared.outcomes.Outcome.{Outcome}
 
@@ -61,11 +60,6 @@ pub record IsOutcome (c : Channel) (area : Bounds) (old : Option Object) (change
   pub raised_is : raised_in o ≡ raised_by c old change
   pub cell_is : o.cell ≡ cell_at c.fence.key area change
 
--- the outcome of the change at a place, by the place of the put whose object stood there
-abbrev pub IsOutcomeAt : Channel → Bounds → List Change → List (Option ℕ) → ℕ → Outcome → Type 0
-IsOutcomeAt c area changes olds at o = (change : Change) (old : Option ℕ) → slice_get changes at ≡ Some change → slice_get olds at ≡ Some old
-    → IsOutcome c area (object_put changes old) change o
-
 -- how many outcomes are puts in a part
 abbrev pub cells_in : List Outcome → ℕ → ℕ → ℕ
 cells_in outcomes row column = length (filter (λ o. is_cell row column o.cell) outcomes)
@@ -78,12 +72,3 @@ count_at counts row column = slice_index counts (row * 8 + column)
 pub record IsTally (outcomes : List Outcome) (counts : List ℕ) : Type 0 where
   pub long : length counts ≡ 64
   pub counted : (row column : ℕ) → row < 8 → column < 8 → count_at counts row column ≡ cells_in outcomes row column
-
--- the outcomes of all changes, in order
-abbrev pub AreOutcomes : Channel → Bounds → List Change → List (Option ℕ) → List Outcome → Type 0
-AreOutcomes c area changes olds outcomes = AllZip (IsOutcomeAt c area changes olds) (range_with_len 0 (length changes)) outcomes
-
--- the report of what changes came to
-abbrev pub outcomes_text : List Change → List Outcome → Bytes
-outcomes_text changes outcomes = let lines = lines_of 1 changes (map raised_in outcomes) in
-    flat_map (λ line. line) lines ++ (total_line (length lines) ++ grid_text (cells_in outcomes))

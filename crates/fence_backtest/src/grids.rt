@@ -82,8 +82,8 @@ fn count_next(counts: &mut [u64], outcomes: &[Outcome], seen: usize)
     }
 }
 
-// How many of some outcomes are puts in each part, row by row.
-fn tally_of(alloc: Global, outcomes: &[Outcome]) -> Result<Vec<u64>, AllocError>
+/// How many of some outcomes are puts in each part, row by row.
+pub(crate) fn tally_of(alloc: Global, outcomes: &[Outcome]) -> Result<Vec<u64>, AllocError>
     ensures { IfOk result (λ counts. IsTally outcomes.now counts.items) }
 {
     let mut counts = vec![in alloc; 0u64; 64]?;
@@ -117,8 +117,8 @@ fn push_row(into: &mut Text, counts: &[u64], row: usize) -> Result<(), NoMemory>
     into.push(b"\n")
 }
 
-// Appends the grid of these counts.
-fn push_counts(into: &mut Text, counts: &[u64]) -> Result<(), NoMemory>
+/// Appends the grid of these numbers, row by row.
+pub(crate) fn push_counts(into: &mut Text, counts: &[u64]) -> Result<(), NoMemory>
     requires { length counts.now ≡ 64 }
     ensures { OnOk result (into.new ≡ into.old ++ grid_text (count_at counts.now)) }
 {
@@ -126,16 +126,4 @@ fn push_counts(into: &mut Text, counts: &[u64]) -> Result<(), NoMemory>
         push_row(into, counts, row)?;
     }
     Ok(())
-}
-
-/// Appends the grid of the puts of some outcomes.
-pub(crate) fn push_grid(
-    alloc: Global,
-    into: &mut Text,
-    outcomes: &[Outcome],
-) -> Result<(), NoMemory>
-    ensures { OnOk result (into.new ≡ into.old ++ grid_text (cells_in outcomes.now)) }
-{
-    let counts = tally_of(alloc, outcomes)?;
-    push_counts(into, counts.as_slice())
 }

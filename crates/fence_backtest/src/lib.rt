@@ -1,11 +1,12 @@
 //! What a fence would have told: the report of a log's changes on a channel.
 //!
-//! What each change raises is asked for side by side, by as many threads as there are processors; the report is that of
-//! one thread, for every cutting of the work.
+//! The log's batches are read side by side, by as many threads as there are processors, and then its changes, cut into
+//! stretches: where the objects stand, and what each change raises. The report is that of one thread, for every cutting.
 #![tactic(auto)]
 
 mod asked;
 mod changes;
+mod cuts;
 mod grids;
 mod in_order;
 mod lines;
@@ -18,6 +19,8 @@ mod records;
 mod reports;
 mod requests;
 mod standing;
+mod sums;
+mod telling;
 
 pub use asked::{AskFault, read_fence};
 pub use changes::Changes;

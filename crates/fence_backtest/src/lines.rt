@@ -1,9 +1,10 @@
 //! The lines of a report.
 
-ghost use Rattle.std.specs.Prelude.{◌≡◌, ◌++◌, ◌≤◌, length, map, flat_map, OnOk, IfOk};
+ghost use Rattle.std.specs.Prelude.{◌≡◌, ◌++◌, ◌+◌, ◌<◌, ◌≤◌, ◌^◌, length, flat_map, OnOk, IfOk};
 ghost use Rattle.fence_model.specs.Messages.{detect_name as name_of_detect};
-ghost use Rattle.fence_backtest.specs.Reports.{id_word, item_line, lines_of, raised_name as name_of_raised, total_line};
+ghost use Rattle.fence_backtest.specs.Reports.{id_word, item_line, raised_name as name_of_raised, total_line};
 ghost use Rattle.fence_backtest.specs.Outcomes.{any_item, raised_in};
+ghost use Rattle.fence_backtest.specs.Telling.{outcome_lines};
 
 use crate::in_order::InOrder;
 use crate::outcomes::Outcome;
@@ -95,20 +96,23 @@ fn push_outcome(
     Ok(first + second)
 }
 
-/// Appends the lines of what all changes came to, numbered from 1 on. How many these are.
+/// Appends the lines of what changes came to, from a place on. How many these are.
 pub(crate) fn push_lines(
     into: &mut Text,
     changes: &InOrder,
+    from: usize,
     outcomes: &[Outcome],
 ) -> Result<u64, NoMemory>
-    requires { length outcomes.now ≡ length changes.now }
-    ensures text { OnOk result
-        (into.new ≡ into.old ++ flat_map (λ line. line) (lines_of 1 changes.now (map raised_in outcomes.now))) }
-    ensures count { IfOk result (λ n. n ≡ length (lines_of 1 changes.now (map raised_in outcomes.now))) }
+    requires within { from + length outcomes.now ≤ length changes.now }
+    requires fits { from + length outcomes.now < 2 ^ 64 }
+    ensures text { OnOk result (into.new ≡ into.old
+        ++ flat_map (λ line. line) (outcome_lines changes.now from outcomes.now)) }
+    ensures count { IfOk result (λ n. n ≡ length (outcome_lines changes.now from outcomes.now)) }
 {
     let mut total = 0;
-    for at in 0..changes.len() {
-        let count = push_outcome(into, at as u64 + 1, changes.at(at), &outcomes[at])?;
+    for at in 0..outcomes.len() {
+        let place = from + at;
+        let count = push_outcome(into, place as u64 + 1, changes.at(place), &outcomes[at])?;
         total += count;
     }
     Ok(total)

@@ -1,24 +1,24 @@
 //! What each change comes to: what it raises, and in which part of the grid it puts.
-//!
-//! The changes are looked at side by side, in pieces, by as many threads as there are processors.
 
-ghost use Rattle.std.specs.Prelude.{◌≡◌, ◌<◌, ℕ, [], None, true, length, IfOk, Option, option_map};
+ghost use Rattle.std.specs.Prelude.{◌≡◌, ◌<◌, ◌≤◌, ◌+◌, ◌^◌, [], None, true, length, IfOk, option_map};
 ghost use Rattle.byte_text.specs.Globs.{is_sound_glob};
 ghost use Rattle.fence_table.specs.Pairs.{items};
 ghost use Rattle.world_data.specs.declared.worlds.Change.TheVariants as changes_of;
+ghost use Rattle.world_data.specs.declared.worlds.World.{World};
+ghost use Rattle.fence_backtest.specs.Cuts.{part};
 ghost use Rattle.fence_backtest.specs.Reports.{raised_by as raised_by_change};
-ghost use Rattle.fence_backtest.specs.Outcomes.{AreOutcomes, IsOutcome, IsOutcomeAt, cell_at as cell_at_change};
-ghost use Rattle.fence_backtest.specs.Outcomes.{object_put as object_put_at};
+ghost use Rattle.fence_backtest.specs.Outcomes.{IsOutcome, cell_at as cell_at_change, object_put as object_put_at};
+ghost use Rattle.fence_backtest.specs.Standing.{AreStood, nowhere, places_behind};
+ghost use Rattle.fence_backtest.specs.Telling.{AreOutcomes, IsOutcomeAt};
 
 use crate::grids::{Cell, cell_of};
 use crate::in_order::InOrder;
-use byte_text::Name;
+use crate::standing::{Stretch, old_place};
+use byte_text::{Name, NoMemory};
 use fence_table::{Pair, raised};
 use ordered_lists::is_same;
 use planar_geom::{BBox, box_of, centre};
-use rayon::prelude::*;
-use std::alloc::{AllocError, Global};
-use std::thread::Threads;
+use std::alloc::Global;
 use world_data::{Change, Channel, Object, Raised};
 
 /// What a change comes to.
@@ -100,43 +100,47 @@ fn outcome_of(channel: &Channel, area: BBox, old: Option<&Object>, change: &Chan
     }
 }
 
-// What the change at a place comes to.
+// What the change at a place of a stretch comes to, behind these.
 fn outcome_at(
     channel: &Channel,
     area: BBox,
     changes: &InOrder,
-    olds: &[Option<usize>],
+    before: &[Stretch],
+    stretch: &Stretch,
     at: usize,
 ) -> Outcome
     requires sound { is_sound_glob channel.now.fence.glob ≡ true }
-    requires within { at < length changes.now }
-    requires known { at < length olds.now }
-    ensures { IsOutcomeAt channel.now area changes.now olds.now at result }
+    requires within { stretch.now.from + length stretch.now.olds ≤ length changes.now }
+    requires fits { stretch.now.from + length stretch.now.olds < 2 ^ 64 }
+    requires here { at < length stretch.now.olds }
+    ensures { IsOutcomeAt channel.now area changes.now before.now stretch.now at result }
 {
-    outcome_of(channel, area, object_put(changes, olds[at]), changes.at(at))
+    let change = changes.at(stretch.from() + at);
+    let old = old_place(before, change, stretch.old(at));
+    outcome_of(channel, area, object_put(changes, old), change)
 }
 
-/// What each change comes to, by the places of the puts whose objects stood there.
-pub(crate) fn outcomes<R: Threads + Sync>(
-    rt: &R,
+/// What each change of a stretch comes to, behind these.
+pub(crate) fn outcomes(
     alloc: Global,
     channel: &Channel,
     area: BBox,
     changes: &InOrder,
-    olds: &[Option<usize>],
-) -> Result<Vec<Outcome>, AllocError>
+    before: &[Stretch],
+    stretch: &Stretch,
+) -> Result<Vec<Outcome>, NoMemory>
     requires sound { is_sound_glob channel.now.fence.glob ≡ true }
-    requires known { length olds.now ≡ length changes.now }
-    ensures { IfOk result (λ found. AreOutcomes channel.now area changes.now olds.now found.items) }
+    requires within { stretch.now.from + length stretch.now.olds ≤ length changes.now }
+    requires fits { stretch.now.from + length stretch.now.olds < 2 ^ 64 }
+    ensures long { IfOk result (λ found. length found.items ≡ length stretch.now.olds) }
+    ensures are { (w : World) → AreStood channel.now.fence.key changes.now (places_behind nowhere before.now) w
+        (part changes.now stretch.now.from (length stretch.now.olds)) stretch.now.olds
+        → IfOk result (λ found. AreOutcomes channel.now area w
+        (part changes.now stretch.now.from (length stretch.now.olds)) found.items) }
 {
-    (0..changes.len())
-        .into_par_iter()
-        .map(
-            |at: usize| -> Outcome
-                requires { (is_sound_glob channel.now.fence.glob ≡ true)
-                    × (at < length changes.now) × (at < length olds.now) }
-                ensures { IsOutcomeAt channel.entry.now area changes.entry.now olds.entry.now at result }
-            { outcome_at(channel, area, changes, olds, at) },
-        )
-        .collect(rt, alloc)
+    let mut found = Vec::with_capacity(alloc, stretch.len())?;
+    for at in 0..stretch.len() {
+        found.push(outcome_at(channel, area, changes, before, stretch, at))?;
+    }
+    Ok(found)
 }

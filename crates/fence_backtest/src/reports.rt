@@ -1,17 +1,17 @@
 //! The report of what a fence would have told.
 
-ghost use Rattle.std.specs.Prelude.{◌≡◌, None, true, Some, IfOk, length};
+ghost use Rattle.std.specs.Prelude.{◌≡◌, ◌++◌, None, true, Some, IfOk, length};
 ghost use Rattle.byte_text.specs.Globs.{is_sound_glob};
 ghost use Rattle.fence_model.specs.Fences.{roams_over};
-ghost use Rattle.fence_backtest.specs.Outcomes.{outcomes_text};
-ghost use Rattle.fence_backtest.specs.Reports.{report, watch_box};
+ghost use Rattle.fence_backtest.specs.Outcomes.{count_at};
+ghost use Rattle.fence_backtest.specs.Reports.{grid_text, report, total_line, watch_box};
 
 use crate::changes::Changes;
-use crate::grids::push_grid;
+use crate::grids::push_counts;
 use crate::in_order::InOrder;
-use crate::lines::{push_lines, push_total};
-use crate::outcomes::{Outcome, outcomes};
-use crate::standing::stood_before;
+use crate::lines::push_total;
+use crate::standing::all_stretches;
+use crate::telling::{Told, joined, tell_each};
 use byte_text::{NoMemory, Text};
 use planar_geom::{BBox, area_box};
 use std::alloc::Global;
@@ -29,15 +29,18 @@ fn watched_box(watch: &Watch) -> BBox
     }
 }
 
-// The report of what changes came to.
-fn report_of(alloc: Global, changes: &InOrder, outcomes: &[Outcome]) -> Result<Text, NoMemory>
-    requires { length outcomes.now ≡ length changes.now }
-    ensures { IfOk result (λ text. text ≡ outcomes_text changes.now outcomes.now) }
+// The report of what is told of changes.
+fn report_of(told: Told) -> Result<Text, NoMemory>
+    requires { length told.counts.items ≡ 64 }
+    ensures { IfOk result (λ text. text ≡ told.text ++ (total_line told.total ++ grid_text (count_at told.counts.items))) }
 {
-    let mut text = Text::new(alloc);
-    let total = push_lines(&mut text, changes, outcomes)?;
+    let Told {
+        mut text,
+        total,
+        counts,
+    } = told;
     push_total(&mut text, total)?;
-    push_grid(alloc, &mut text, outcomes)?;
+    push_counts(&mut text, counts.as_slice())?;
     Ok(text)
 }
 
@@ -53,9 +56,10 @@ pub(crate) fn report_changes<R: Threads + Sync>(
     ensures { IfOk result (λ text. text ≡ report channel.now changes.now) }
 {
     let area = watched_box(&channel.fence.watch);
-    let olds = stood_before(alloc, &channel.fence.key, changes)?;
-    let found = outcomes(rt, alloc, channel, area, changes, olds.as_slice())?;
-    report_of(alloc, changes, found.as_slice())
+    let stretches = all_stretches(rt, alloc, &channel.fence.key, changes)?;
+    let told = tell_each(rt, alloc, channel, area, changes, &stretches)?;
+    let all = joined(alloc, told.as_slice())?;
+    report_of(all)
 }
 
 /// The report of what the channel would have raised over the changes of a log: the line of each item, with the number

@@ -1,28 +1,38 @@
-use Rattle.std.proofs.Common.{◌≡◌, ℕ, ◌<◌, ◌-◌, ◌∙◌, true, List, length, sym, ap, subst, arith}
-use Rattle.std.specs.List.{AllZip, range_with_len}
-use Rattle.rayon.specs.Numbers.{nat_range}
-use Rattle.rayon.proofs.ListFacts.{IfOk-then}
-use Rattle.rayon.proofs.ToStd.{nat_range-All}
-use Rattle.byte_text.specs.Globs.{is_sound_glob}
-use Rattle.fence_backtest.specs.Outcomes.{IsOutcomeAt}
+use Rattle.std.proofs.Common.{◌∙◌, ◌<◌, ◌+◌, ◌∷◌, [], List, sym, ap, subst, arith, take, length, length-append}
+use Rattle.world_data.specs.declared.worlds.Change.{Change}
+use Rattle.fence_backtest.specs.Cuts.{part}
+use Rattle.fence_backtest.specs.Standing.{nowhere, places_behind}
+use Rattle.fence_backtest.specs.Telling.{AreOutcomes}
 use Rattle.fence_backtest.specs.declared.outcomes.Outcome.{Outcome}
+use Rattle.fence_backtest.proofs.Cutting.{got, part_all, part_at}
+use Rattle.fence_backtest.proofs.ReportLaws.{outcomes_more}
 use Rattle.fence_backtest.proofs.outcomes.outcomes.Goals as goal
 
--- the closure's `requires` at each number of the range
-pub collect-requires-clause-ready : goal.collect-requires-clause-ready
-collect-requires-clause-ready g c κs within =
-    let ends = c.into_par_iter.ensures in
-    let inside = nat_range-All (λ i. (is_sound_glob c.args.channel.now.fence.glob ≡ true) × (i < length c.args.changes.now) × (i < length c.args.olds.now)) 0 c.len.result
-    (λ i low high. (c.requires.sound, omega (arith, high, c.len.ensures), omega (arith, high, c.len.ensures, c.requires.known))) in
-    rw (c.map.ensures.base, c.map.ensures.f, ends.0, ends.1) (λ k d lt. (inside k d lt, λ y p. tt))
+pub loop-at-preserved : goal.loop-at-preserved
+loop-at-preserved c =
+    let channel = c.args.channel.now in
+    let all = c.args.changes.now in
+    let s = c.args.stretch.now in
+    let n = length s.olds in
+    let changes = part all s.from n in
+    let at = c.loop-at.at in
+    let found = c.loop-at.found.items in
+    let o = c.outcome_at.result in
+    let within : at < n = omega (arith, c.loop-at-test.true, c.len-at-end.ensures) in
+    let here = got all (s.from + at) (omega (arith, within, c.requires.within)) in
+    let there = got s.olds at within in
+    record {
+      long = ap (λ (l : List Outcome). length l) c.in_ok-push.ensures.items ∙ omega (arith, length-append found (o ∷ []), c.loop-at.invariant.long);
+      are = λ w stood.
+          subst (λ (os : List Outcome). AreOutcomes channel c.args.area w (take (at + 1) changes) os) (sym c.in_ok-push.ensures.items)
+          (outcomes_more channel c.args.area all (places_behind nowhere c.args.before.now) w changes s.olds at found here.0 there.0 o stood
+          (part_at all s.from n at here.0 within here.1) there.1 (c.outcome_at.ensures here.0 there.0 here.1 there.1) (c.loop-at.invariant.are w stood));
+    }
 
-pub returns : goal.returns
-returns g c =
-    let ends = c.into_par_iter.ensures in
-    let n = length c.args.changes.now in
-    let whole : c.len.result - 0 ≡ n = omega (arith, c.len.ensures) in
-    let R = IsOutcomeAt c.args.channel.now c.args.area c.args.changes.now c.args.olds.now in
-    IfOk-then c.collect.result _ _ c.collect.ensures (λ v h.
-    let chain = rw (c.map.ensures.base, c.map.ensures.f) at h.1 in
-    let places = chain.1 ∙ (λ i. nat_range (ends.0 i) (ends.1 i)) ∙ ap (range_with_len 0) whole in
-    subst (λ (l : List Outcome). AllZip R (range_with_len 0 n) l) (sym h.2) (subst (λ (l : List ℕ). AllZip R l h.0) places chain.2))
+pub returns-clause-are : goal.returns-clause-are
+returns-clause-are c = λ w stood.
+    let s = c.args.stretch.now in
+    let at = c.loop-at.at in
+    subst (λ (l : List Change). AreOutcomes c.args.channel.now c.args.area w l c.loop-at.found.items)
+    (part_all c.args.changes.now s.from (length s.olds) at (length s.olds) (omega (arith, c.loop-at.auto.at-end, c.loop-at-test.false, c.len-at-end.ensures)) (omega (arith, c.loop-at.auto.at-end, c.loop-at-test.false, c.len-at-end.ensures)))
+    (c.loop-at.invariant.are w stood)
