@@ -1,6 +1,6 @@
 //! The log on a side of a disk: records are pushed, and a commit makes them stand.
 
-ghost use Rattle.std.specs.Prelude.{Decides, ◌≡◌, ◌+◌, ◌≤◌, ◌<◌, ◌^◌, ◌++◌, ℕ, List, [], take, length, OnOk, OnErr};
+ghost use Rattle.std.specs.Prelude.{Decides, ◌≡◌, ◌+◌, ◌≤◌, ◌<◌, ◌^◌, ◌++◌, ℕ, List, [], length, OnOk, OnErr};
 ghost use Rattle.std.specs.Prelude.{Ok, IfOk, IfErr, MatchResult};
 ghost use Rattle.byte_text.specs.Names.{Bytes};
 ghost use Rattle.outside.specs.Causes.{HasCause, Rose};
@@ -141,19 +141,6 @@ impl AppendLog {
         ensures last { self.new.last ≡ self.old.last }
     {
         self.pending.push(entry)
-    }
-
-    /// Forgets what was pushed behind the first `len` pending bytes.
-    pub fn cut_to(&mut self, len: u64)
-        requires { len ≤ length self.old.pending }
-        ensures pending { self.new.pending ≡ take len self.old.pending }
-        ensures side { self.new.side ≡ self.old.side }
-        ensures version { self.new.version ≡ self.old.version }
-        ensures generation { self.new.generation ≡ self.old.generation }
-        ensures gate { self.new.gate ≡ self.old.gate }
-        ensures last { self.new.last ≡ self.old.last }
-    {
-        self.pending.cut_to(len as usize);
     }
 
     /// How many bytes the pending records have.

@@ -6,7 +6,7 @@
 //! what its last one did.
 
 ghost use Rattle.std.specs.Prelude.{◌≡◌, ◌+◌, ◌≤◌, ◌<◌, ◌^◌, ◌++◌, ◌⊎◌, ℕ, true, false, List, [], Some, None, is_some};
-ghost use Rattle.std.specs.Prelude.{take, length, max, Decides, Ok, OnOk, OnErr, IfOk, IfErr};
+ghost use Rattle.std.specs.Prelude.{length, max, Decides, Ok, OnOk, OnErr, IfOk, IfErr};
 ghost use Rattle.byte_text.specs.Names.{Bytes};
 ghost use Rattle.outside.specs.Causes.{HasCause, Rose};
 ghost use Rattle.outside.specs.declared.sides.Side.{Side};
@@ -204,17 +204,6 @@ impl<D: Disk> Journal<D> {
             → Keeps D.crashes D.seen D.images self.new batches copied }
     {
         self.log.push(entry)
-    }
-
-    /// Forgets what is pending behind the first `len` bytes, which are the records of whole changes.
-    pub fn cut_to(&mut self, len: u64)
-        requires { len ≤ length (pending self.old) }
-        ensures pending { pending self.new ≡ take len (pending self.old) }
-        ensures same { SameBut self.old self.new }
-        ensures kept { (batches copied : List Bytes) → Keeps D.crashes D.seen D.images self.old batches copied
-            → Keeps D.crashes D.seen D.images self.new batches copied }
-    {
-        self.log.cut_to(len);
     }
 
     /// Makes the pending batch stand, with two syncs; where the log is rewritten it is written to the new side, too,

@@ -1,6 +1,6 @@
 -- A journal: the world that is committed, and the changes that are pending. How it is written on the sides, and rewritten,
 -- is not seen.
-use Rattle.std.specs.Prelude.{◌≡◌, ◌≤◌, ℕ, Bool, true, false, ◌&&◌, ◌||◌, List, [], ◌∷◌, ◌++◌, take}
+use Rattle.std.specs.Prelude.{◌≡◌, ◌≤◌, ℕ, Bool, true, false, ◌&&◌, ◌||◌, List, [], ◌∷◌, ◌++◌}
 use Rattle.world_model.specs.Halls.{Hall}
 use Rattle.world_model.specs.Histories.{given, is_fine}
 use Rattle.world_data.specs.declared.worlds.World.{World}
@@ -25,10 +25,6 @@ whole j = folded j.committed j.pending
 -- one more change is pending
 abbrev pub pushed : Change → Journal → Journal
 pushed c j = record j { pending = j.pending ++ c ∷ [] }
-
--- the first n changes are pending, and no more
-abbrev pub cut_to : ℕ → Journal → Journal
-cut_to n j = record j { pending = take n j.pending }
 
 -- all that was pending is committed
 abbrev pub settled : Journal → Journal

@@ -1,8 +1,6 @@
 //! Lists of numbers.
 
 ghost use Rattle.std.specs.Prelude.{◌≡◌, ◌<◌, ◌++◌, [], ◌∷◌, length, slice_index, OnOk, OnErr, IsTrue, ◌↔◌};
-ghost use Rattle.std.specs.List.Sorted.{IsPermutation, IsSorted};
-ghost use Rattle.std.specs.Ordering.{nat_cmp};
 
 use planar_geom::NoMemory;
 use std::alloc::Global;
@@ -59,14 +57,6 @@ impl Ids {
         ensures { self.new ≡ [] }
     {
         self.list.clear();
-    }
-
-    /// Puts the lesser numbers first. It takes no memory.
-    pub fn sort(&mut self)
-        ensures order { IsSorted nat_cmp self.new }
-        ensures numbers { IsPermutation self.old self.new }
-    {
-        self.list.sort_unstable();
     }
 
     /// Puts a number last.
