@@ -8,3 +8,6 @@ pub mod LogTexts
 pub mod Workload
 pub mod Values
 pub mod Expiry
+pub mod Openings
+pub mod Weights
+pub mod Outcomes

@@ -1,5 +1,7 @@
-//! Worked examples of the definitions, each proved by computing it.
+//! Worked examples of the definitions, each proved by computing it, and further laws of the machine, of which no code makes use.
 #![tactic(auto)]
+
+mod laws;
 
 ghost use Rattle.worked_examples.specs.Areas.{HoldsAreas};
 ghost use Rattle.worked_examples.specs.ByteTexts.{HoldGlobs, HoldNames, HoldNumbers, HoldStreams, HoldTexts};
@@ -11,6 +13,8 @@ ghost use Rattle.worked_examples.specs.Served.{HoldsServed};
 ghost use Rattle.worked_examples.specs.Texts.{HoldsTexts};
 ghost use Rattle.worked_examples.specs.Values.{HoldsTests, HoldsValues};
 ghost use Rattle.worked_examples.specs.Workload.{HoldsSummary, HoldsWorkload};
+
+pub use laws::{opening_laws, outcome_laws, weight_laws};
 
 /// Names, numbers, texts of requests and replies, patterns and streams.
 pub fn byte_texts()

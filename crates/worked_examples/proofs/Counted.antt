@@ -16,7 +16,7 @@ use Rattle.byte_text.specs.ByteOrder.{before_tie, before_asym, same_refl, same_e
 use Rattle.ordered_lists.specs.NameOrder.{pair_trans, pair_tie, name_trans, name_tie}
 use Rattle.ordered_lists.specs.Reading.{both_of}
 use Rattle.ordered_lists.specs.Ascending.{behind_earlier, behind_tied}
-use Rattle.machine_laws.specs.Weights.{object_len, channel_len, gained, lost}
+use Rattle.worked_examples.specs.Weights.{object_len, channel_len, gained, lost}
 
 abbrev total : {A : Type 0} → (A → ℕ) → List A → ℕ
 total f [] = 0

@@ -31,7 +31,7 @@ use Rattle.world_model.specs.PrefixLaws.{Taking}
 use Rattle.world_model.specs.RowLaws.{of_families}
 use Rattle.world_data.specs.declared.queries.Rule.TheVariants.{InArea, Nearest}
 use Rattle.world_model.specs.MadeForms.{Makes, makes_done, makes_none, makes_behind, makes_then, makes_any, makes_word, makes_if, first}
-use Rattle.machine_laws.proofs.Finishing.{Finished, Weak, Good, good_done, good_or, good_or_weak, weak_or, weak_none, weak_where, good_word, good_any, weak_any, good_bind, good_repeated, good_loop, through}
+use Rattle.worked_examples.proofs.Finishing.{Finished, Weak, Good, good_done, good_or, good_or_weak, weak_or, weak_none, weak_where, good_word, good_any, weak_any, good_bind, good_repeated, good_loop, through}
 
 -- kinds of word
 

@@ -6,7 +6,7 @@ use Rattle.world_model.specs.Halls.{Hall}
 use Rattle.world_model.specs.Histories.{Step, Leads, gives_disk}
 use Rattle.world_model.specs.Laws.{StepsAreDetermined}
 use Rattle.world_model.specs.declared.events.Entry.{Entry}
-use Rattle.machine_laws.specs.Outcomes.{IsDetermined}
+use Rattle.worked_examples.specs.Outcomes.{IsDetermined}
 
 first_event : (x y : Entry) (xs ys : List Entry) → map (λ e. e.event) (x ∷ xs) ≡ map (λ e. e.event) (y ∷ ys) → x.event ≡ y.event
 first_event x y xs ys e = grind arith

@@ -1,7 +1,7 @@
 use Rattle.std.specs.Prelude.{false}
 use Rattle.world_model.specs.Histories.{opening_hall}
-use Rattle.machine_laws.proofs.Histories.{outcomes_follow}
-use Rattle.machine_laws.proofs.laws.outcome_laws.Goals as goal
+use Rattle.worked_examples.proofs.Histories.{outcomes_follow}
+use Rattle.worked_examples.proofs.laws.outcome_laws.Goals as goal
 
 pub returns : goal.returns
 returns c = λ o entries others last other same clean pure first second.

@@ -1,8 +1,8 @@
 //! Laws of the machine that no code makes use of. Each is the contract of a function that does nothing.
 
-ghost use Rattle.machine_laws.specs.Openings.{OpenIsBegun};
-ghost use Rattle.machine_laws.specs.Outcomes.{EventsDetermineOutcomes};
-ghost use Rattle.machine_laws.specs.Weights.{WeightIsCounted};
+ghost use Rattle.worked_examples.specs.Openings.{OpenIsBegun};
+ghost use Rattle.worked_examples.specs.Outcomes.{EventsDetermineOutcomes};
+ghost use Rattle.worked_examples.specs.Weights.{WeightIsCounted};
 
 use world_model::step_laws;
 
