@@ -26,7 +26,7 @@ use crate::rewritings::asks_rewriting;
 use crate::tails::Tail;
 use outside::{Disk, Failed};
 use std::alloc::Global;
-use tile_core::Core;
+use tile_core::{Ample, Core, Growths};
 use world_model::{Asked, CallOutcome, ChangedSessions, EnterFault, Frames, Taken};
 
 /// A world and the sessions that are served, over a log on a disk. Where the disk fails, the hall stops: from then on
@@ -55,6 +55,13 @@ impl<D: Drop> Drop for DurableCore<D> {
 impl<D: Disk> DurableCore<D> {
     ghost use Rattle.durable_core.specs.Logged.{hall_of, disk_of, generation_of, shown_of, KeepsLogOf, GoesOn};
     ghost use Rattle.durable_core.specs.Histories.{writing_of, written};
+
+    /// The core in memory, to be read.
+    pub fn core(&self) -> &Core
+        ensures { result.now ≡ self.now.core }
+    {
+        &self.core
+    }
 
     /// How many objects there are.
     pub fn objects(&self) -> u64
@@ -208,6 +215,49 @@ impl<D: Disk> DurableCore<D> {
             → GoesOn D.crashes D.seen D.images D.moment D.left_since self.old self.new
             (event.Call session moment asked.now) (outcome.Answered result) j }
     {
+        self.call_with(session, moment, asked, touched, &mut Ample)
+    }
+
+    /// The same, where memory may be refused before each step that may take it, which then ends as where memory is
+    /// wanted: the hall is as before. It is asked last before the records are handed to the log.
+    pub fn call_with<G: Growths>(
+        &mut self,
+        session: u32,
+        moment: u64,
+        asked: &Asked,
+        touched: &mut ChangedSessions,
+        growths: &mut G,
+    ) -> CallOutcome
+        requires moment { moment ≤ max_moment }
+        requires proper { is_proper asked.now ≡ true }
+        requires room { AreSessions touched.old (hall_of self.old) }
+        ensures step { Step (hall_of self.old) (event.Call session moment asked.now) (outcome.Answered result)
+            (hall_of self.new) }
+        ensures named { NamesChanged touched.new (hall_of self.old) (hall_of self.new) }
+        ensures kept { StayNamed touched.old touched.new }
+        ensures room { AreSessions touched.new (hall_of self.new) }
+        ensures logged { (hall_of self.new).logged ≤ (hall_of self.old).logged + 2 * most_kept }
+        ensures done { (hall_of self.old).stopped ≡ false → MayCall (hall_of self.old) session
+            → (result ≡ CallOutcome.Ok) ⊎ ((result ≡ CallOutcome.Memory) ⊎ (result ≡ CallOutcome.LogFault)) }
+        ensures answered { result ≡ CallOutcome.Ok
+            → IsAnswered (hall_of self.old) (hall_of self.new) moment session asked.now }
+        ensures long { result ≡ CallOutcome.Ok → much ≤ length (pending self.old.tail.journal)
+            → pending self.new.tail.journal
+            ≡ records_text (changes_of (writes_of (hall_of self.old) (event.Call session moment asked.now))) }
+        ensures cause { result ≡ CallOutcome.LogFault
+            → Rose (D.faults (disk_of self.old)) (D.faults (disk_of self.new)) }
+        ensures later { D.faults (disk_of self.old) ≤ D.faults (disk_of self.new) }
+        ensures told { D.crashes (disk_of self.new) ≡ D.crashes (disk_of self.old) }
+        ensures rewriting { self.new.tail.rewriting
+            ≡ rewriting_after result (is_served_rewriting (session_of (hall_of self.old) session) asked.now)
+            (generation_of self.old) self.old.tail.rewriting }
+        ensures generation { generation_of self.new ≡ generation_of self.old }
+        ensures written { (hall_of self.new).stopped ≡ false
+            → IsMirrored D.crashes D.seen D.images self.old.tail.journal self.new.tail.journal }
+        ensures log { (j : Log) → KeepsLogOf D.crashes D.seen D.images self.old j
+            → GoesOn D.crashes D.seen D.images D.moment D.left_since self.old self.new
+            (event.Call session moment asked.now) (outcome.Answered result) j }
+    {
         if self.is_stopped() {
             return CallOutcome::Stopped;
         }
@@ -216,7 +266,7 @@ impl<D: Disk> DurableCore<D> {
             Ok(()) => {
                 let called = self
                     .core
-                    .call(session, moment, asked, touched, &mut self.tail);
+                    .call_with(session, moment, asked, touched, &mut self.tail, growths);
                 self.tail.note(called, rewrites);
                 called
             }
@@ -253,11 +303,45 @@ impl<D: Disk> DurableCore<D> {
             → GoesOn D.crashes D.seen D.images D.moment D.left_since self.old self.new (event.Tick moment)
             (outcome.Answered result) j }
     {
+        self.tick_with(moment, touched, &mut Ample)
+    }
+
+    /// The same, where memory may be refused before each step that may take it.
+    pub fn tick_with<G: Growths>(
+        &mut self,
+        moment: u64,
+        touched: &mut ChangedSessions,
+        growths: &mut G,
+    ) -> CallOutcome
+        requires moment { moment ≤ max_moment }
+        requires room { AreSessions touched.old (hall_of self.old) }
+        ensures step { Step (hall_of self.old) (event.Tick moment) (outcome.Answered result) (hall_of self.new) }
+        ensures named { NamesChanged touched.new (hall_of self.old) (hall_of self.new) }
+        ensures kept { StayNamed touched.old touched.new }
+        ensures room { AreSessions touched.new (hall_of self.new) }
+        ensures logged { (hall_of self.new).logged ≤ (hall_of self.old).logged + most_kept }
+        ensures long { result ≡ CallOutcome.Ok → much ≤ length (pending self.old.tail.journal)
+            → pending self.new.tail.journal
+            ≡ records_text (changes_of (writes_of (hall_of self.old) (event.Tick moment))) }
+        ensures cause { result ≡ CallOutcome.LogFault
+            → Rose (D.faults (disk_of self.old)) (D.faults (disk_of self.new)) }
+        ensures later { D.faults (disk_of self.old) ≤ D.faults (disk_of self.new) }
+        ensures told { D.crashes (disk_of self.new) ≡ D.crashes (disk_of self.old) }
+        ensures rewriting { self.new.tail.rewriting ≡ self.old.tail.rewriting }
+        ensures generation { generation_of self.new ≡ generation_of self.old }
+        ensures written { (hall_of self.new).stopped ≡ false
+            → IsMirrored D.crashes D.seen D.images self.old.tail.journal self.new.tail.journal }
+        ensures log { (j : Log) → KeepsLogOf D.crashes D.seen D.images self.old j
+            → GoesOn D.crashes D.seen D.images D.moment D.left_since self.old self.new (event.Tick moment)
+            (outcome.Answered result) j }
+    {
         if self.is_stopped() {
             return CallOutcome::Stopped;
         }
         match self.tail.commit_long(!self.core.is_spent()) {
-            Ok(()) => self.core.tick(moment, touched, &mut self.tail),
+            Ok(()) => self
+                .core
+                .tick_with(moment, touched, &mut self.tail, growths),
             Err(Failed) => {
                 self.stopped = true;
                 CallOutcome::LogFault

@@ -11,6 +11,7 @@ ghost use Rattle.object_plans.specs.Beside.{channels_weight};
 ghost use Rattle.object_plans.specs.Kept.{most_kept};
 ghost use Rattle.tile_core.specs.Dues.{AreChannelsDueFrom, AreCounted, AreOut};
 
+use crate::growths::{Growths, grown};
 use byte_text::NoMemory;
 use channel_hub::{Candidates, Hub};
 use record_writer::{channel_len, delchan_len};
@@ -70,24 +71,31 @@ fn count_each(out: &Candidates<'_>, total: u64, due_from: u64) -> ExpiredChannel
 }
 
 // Counts the channels that are out, where all together have this weight.
-fn count_out(alloc: Global, hub: &Hub, total: u64) -> Result<ExpiredChannels, NoMemory>
+fn count_out<G: Growths>(
+    alloc: Global,
+    hub: &Hub,
+    total: u64,
+    growths: &mut G,
+) -> Result<ExpiredChannels, NoMemory>
     requires light { total ≤ most_kept }
     requires weighed { channels_weight hub.now.channels + sum_by len_of_channel hub.now.taken ≡ total }
     ensures counted { IfOk result (AreCounted total hub.now.taken) }
     ensures due_from { IfOk result (λ g. AreChannelsDueFrom g.due_from hub.now.channels) }
 {
+    grown(growths)?;
     let out = hub.taken(alloc)?;
     Ok(count_each(&out, total, least_channel_deadline(hub)))
 }
 
 /// Takes the channels out that are due now, of channels of a weight of which no deadline comes before `due_from`. For
 /// want of memory the channels are as before.
-pub(crate) fn expire_channels(
+pub(crate) fn expire_channels<G: Growths>(
     alloc: Global,
     hub: &mut Hub,
     total: u64,
     due_from: u64,
     now: u64,
+    growths: &mut G,
 ) -> Result<ExpiredChannels, NoMemory>
     requires light { total ≤ most_kept }
     requires weighed { total ≡ channels_weight hub.old.channels }
@@ -95,6 +103,7 @@ pub(crate) fn expire_channels(
     ensures out { IfOk result (AreOut hub.old now total hub.new) }
     ensures err { OnErr result (hub.new.channels ≡ hub.old.channels) }
 {
+    grown(growths)?;
     if now < due_from {
         hub.let_go();
         return Ok(ExpiredChannels {
@@ -104,7 +113,7 @@ pub(crate) fn expire_channels(
         });
     }
     hub.take_due(now);
-    match count_out(alloc, hub, total) {
+    match count_out(alloc, hub, total, growths) {
         Ok(gone) => Ok(gone),
         Err(NoMemory) => {
             hub.put_back();

@@ -22,7 +22,8 @@ ghost use Rattle.tile_core.specs.RecordSinks.{IsRecordedBy};
 ghost use Rattle.tile_core.specs.Answered.{MayCall, MayTake, IsAnswered, AreSessions, StayNamed};
 
 use crate::finish::{complete, let_go};
-use crate::ready::{make_ready, make_tick_ready};
+use crate::growths::{Ample, Growths};
+use crate::ready::{Call, make_ready, make_tick_ready};
 use crate::record_sinks::RecordSink;
 use crate::sessions::{position_of, served};
 use crate::spares::Spares;
@@ -106,6 +107,20 @@ impl Core {
         self.store.hub.len() as u64
     }
 
+    /// The moment that the clock shows.
+    pub fn clock(&self) -> u64
+        ensures { result ≡ self.now.hall.now }
+    {
+        self.clock
+    }
+
+    /// How many bytes of records there are in the log, also of changes that were undone by later ones.
+    pub fn logged(&self) -> u64
+        ensures { result ≡ self.now.hall.logged }
+    {
+        self.logged
+    }
+
     /// How many nodes of trees were visited since the start, to find objects and channels, to put them and to take them
     /// out; it stops at the greatest u64.
     pub fn visited(&self) -> u64
@@ -186,6 +201,36 @@ impl Core {
             → IsRecordedBy L.takes self.old.hall (event.Call session moment asked.now) ledger.old ledger.new }
         ensures unrecorded { result ≢ CallOutcome.Ok → (ledger.new ≡ ledger.old) ⊎ L.stays ledger.old ledger.new }
     {
+        self.call_with(session, moment, asked, touched, ledger, &mut Ample)
+    }
+
+    /// The same, where memory may be refused before each step that may take it, which then ends as where memory is
+    /// wanted: the core is as before.
+    pub fn call_with<L: RecordSink, G: Growths>(
+        &mut self,
+        session: u32,
+        moment: u64,
+        asked: &Asked,
+        touched: &mut ChangedSessions,
+        ledger: &mut L,
+        growths: &mut G,
+    ) -> CallOutcome
+        requires moment { moment ≤ max_moment }
+        requires proper { is_proper asked.now ≡ true }
+        requires room { AreSessions touched.old self.old.hall }
+        ensures step { Step self.old.hall (event.Call session moment asked.now)
+            (outcome.Answered result) self.new.hall }
+        ensures stopped { self.new.hall.stopped ≡ self.old.hall.stopped }
+        ensures named { NamesChanged touched.new self.old.hall self.new.hall }
+        ensures kept { StayNamed touched.old touched.new }
+        ensures room { AreSessions touched.new self.new.hall }
+        ensures logged { self.new.hall.logged ≤ self.old.hall.logged + 2 * most_kept }
+        ensures done { MayCall self.old.hall session → (result ≡ CallOutcome.Ok) ⊎ (result ≡ CallOutcome.Memory) }
+        ensures answered { result ≡ CallOutcome.Ok → IsAnswered self.old.hall self.new.hall moment session asked.now }
+        ensures recorded { result ≡ CallOutcome.Ok
+            → IsRecordedBy L.takes self.old.hall (event.Call session moment asked.now) ledger.old ledger.new }
+        ensures unrecorded { result ≢ CallOutcome.Ok → (ledger.new ≡ ledger.old) ⊎ L.stays ledger.old ledger.new }
+    {
         if self.logged >= MOST_LOGGED {
             return CallOutcome::Spent;
         }
@@ -198,11 +243,10 @@ impl Core {
             self.alloc,
             &mut self.store,
             &mut self.sessions,
-            at,
-            now,
-            asked,
+            Call { at, now, asked },
             &mut self.spares,
             ledger,
+            growths,
         );
         let Ok(ready) = ready else {
             return CallOutcome::Memory;
@@ -241,6 +285,29 @@ impl Core {
             → IsRecordedBy L.takes self.old.hall (event.Tick moment) ledger.old ledger.new }
         ensures unrecorded { result ≢ CallOutcome.Ok → (ledger.new ≡ ledger.old) ⊎ L.stays ledger.old ledger.new }
     {
+        self.tick_with(moment, touched, ledger, &mut Ample)
+    }
+
+    /// The same, where memory may be refused before each step that may take it.
+    pub fn tick_with<L: RecordSink, G: Growths>(
+        &mut self,
+        moment: u64,
+        touched: &mut ChangedSessions,
+        ledger: &mut L,
+        growths: &mut G,
+    ) -> CallOutcome
+        requires moment { moment ≤ max_moment }
+        requires room { AreSessions touched.old self.old.hall }
+        ensures step { Step self.old.hall (event.Tick moment) (outcome.Answered result) self.new.hall }
+        ensures stopped { self.new.hall.stopped ≡ self.old.hall.stopped }
+        ensures named { NamesChanged touched.new self.old.hall self.new.hall }
+        ensures kept { StayNamed touched.old touched.new }
+        ensures room { AreSessions touched.new self.new.hall }
+        ensures logged { self.new.hall.logged ≤ self.old.hall.logged + most_kept }
+        ensures recorded { result ≡ CallOutcome.Ok
+            → IsRecordedBy L.takes self.old.hall (event.Tick moment) ledger.old ledger.new }
+        ensures unrecorded { result ≢ CallOutcome.Ok → (ledger.new ≡ ledger.old) ⊎ L.stays ledger.old ledger.new }
+    {
         if self.logged >= MOST_LOGGED {
             return CallOutcome::Spent;
         }
@@ -252,6 +319,7 @@ impl Core {
             now,
             &mut self.spares.records,
             ledger,
+            growths,
         );
         let Ok(ready) = ready else {
             unstage(&mut self.sessions);

@@ -14,6 +14,7 @@ ghost use Rattle.object_plans.specs.Moves.{world_of};
 ghost use Rattle.record_writer.specs.Lengths.{HaveFewFields};
 ghost use Rattle.tile_core.specs.Dues.{IsNotBefore, AreDueFrom, HaveRoom, IsTaken, IsTakenOut, IsExpired, with_back};
 
+use crate::growths::{Growths, grown};
 use byte_text::NoMemory;
 use keyspace::Keyspace;
 use record_writer::{del_len, put_len};
@@ -34,11 +35,12 @@ pub(crate) struct Expired {
 }
 
 // Takes the object out that expires first, and says whether one is due. For want of memory all is as before.
-fn take_next(
+fn take_next<G: Growths>(
     objects: &mut Keyspace,
     gone: &mut Expired,
     now: u64,
     steps: &mut Steps<Visits>,
+    growths: &mut G,
 ) -> Result<bool, NoMemory>
     requires few { HaveFewFields (objects_in objects.old) }
     requires rest { gone.old.weight ≡ weight (world_of (objects_in objects.old)) }
@@ -53,6 +55,7 @@ fn take_next(
     ensures held { result ≢ Ok true → gone.new.held.items ≡ gone.old.held.items }
     ensures sums { result ≢ Ok true → gone.new ≡ record gone.old { held = gone.new.held } }
 {
+    grown(growths)?;
     if gone.held.reserve(1).is_err() {
         return Err(NoMemory);
     }
@@ -87,12 +90,13 @@ pub(crate) fn release(objects: &mut Keyspace, held: Vec<Object>)
 }
 
 // Takes all objects out that are due. For want of memory the objects are as before.
-fn take_due(
+fn take_due<G: Growths>(
     alloc: Global,
     objects: &mut Keyspace,
     total: u64,
     now: u64,
     steps: &mut Steps<Visits>,
+    growths: &mut G,
 ) -> Result<Expired, NoMemory>
     requires { AreKept (objects_in objects.old) total }
     ensures taken { IfOk result (λ g. IsTaken (objects_in objects.old) now total
@@ -108,7 +112,7 @@ fn take_due(
         due_from: 0,
     };
     loop {
-        match take_next(objects, &mut gone, now, steps) {
+        match take_next(objects, &mut gone, now, steps, growths) {
             Ok(true) => {}
             Ok(false) => return Ok(gone),
             Err(NoMemory) => {
@@ -139,13 +143,14 @@ fn least_deadline(objects: &Keyspace) -> u64
 
 /// Takes the objects out that are due now, where no deadline comes before `due_from`. For want of memory the objects
 /// are as before.
-pub(crate) fn expire(
+pub(crate) fn expire<G: Growths>(
     alloc: Global,
     objects: &mut Keyspace,
     total: u64,
     due_from: u64,
     now: u64,
     steps: &mut Steps<Visits>,
+    growths: &mut G,
 ) -> Result<Expired, NoMemory>
     requires kept { AreKept (objects_in objects.old) total }
     requires due_from { AreDueFrom due_from (objects_in objects.old) }
@@ -153,6 +158,7 @@ pub(crate) fn expire(
     ensures room { IfOk result (λ g. HaveRoom objects.new g.held.items) }
     ensures err { OnErr result (objects_in objects.new ≡ objects_in objects.old) }
 {
+    grown(growths)?;
     if now < due_from {
         return Ok(Expired {
             held: Vec::new(alloc),
@@ -161,7 +167,7 @@ pub(crate) fn expire(
             due_from,
         });
     }
-    let mut gone = take_due(alloc, objects, total, now, steps)?;
+    let mut gone = take_due(alloc, objects, total, now, steps, growths)?;
     gone.due_from = least_deadline(objects);
     Ok(gone)
 }

@@ -6,6 +6,7 @@ mod channel_dues;
 mod cores;
 mod dues;
 mod finish;
+mod growths;
 mod moves;
 mod ready;
 mod record_sinks;
@@ -17,5 +18,6 @@ mod stores;
 mod touching;
 
 pub use cores::Core;
+pub use growths::{Ample, Growths};
 pub use record_sinks::{NoRecords, RecordSink};
 pub use records::{push_channel, push_object};

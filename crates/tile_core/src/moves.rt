@@ -8,6 +8,7 @@ ghost use Rattle.tile_core.specs.Ready.{HoldsOfSet};
 ghost use Rattle.object_plans.specs.Moves.{HasRoom, HoldsOfPut, moved, without_each};
 
 use crate::dues::earlier;
+use crate::growths::{Growths, grown};
 use byte_text::{Name, NoMemory};
 use command_plans::{ChannelChange, ObjectChange};
 use keyspace::Keyspace;
@@ -15,13 +16,20 @@ use rtree::{Steps, Visits};
 use world_model::NameList;
 
 /// Takes room for what is put. For want of memory the objects are as before.
-pub(crate) fn make_room(objects: &mut Keyspace, action: &ObjectChange) -> Result<(), NoMemory>
+pub(crate) fn make_room<G: Growths>(
+    objects: &mut Keyspace,
+    action: &ObjectChange,
+    growths: &mut G,
+) -> Result<(), NoMemory>
     ensures objects { objects_in objects.new ≡ objects_in objects.old }
     ensures kept { (key : Bytes) → room_for objects.old key ≤ room_for objects.new key }
     ensures room { OnOk result (HasRoom objects.new action.now) }
 {
     match action {
-        ObjectChange::Put(object) => objects.prepare(&object.key),
+        ObjectChange::Put(object) => {
+            grown(growths)?;
+            objects.prepare(&object.key)
+        }
         _ => Ok(()),
     }
 }

@@ -22,6 +22,7 @@ ghost use Rattle.tile_core.specs.Stores.{IsStore};
 
 use crate::channel_dues::{ExpiredChannels, expire_channels};
 use crate::dues::{Expired, expire, put_back};
+use crate::growths::{Growths, grown};
 use crate::moves::make_room;
 use crate::record_sinks::RecordSink;
 use crate::records::record_ready;
@@ -34,6 +35,14 @@ use message_fanout::turn_laws;
 use session_table::{Session, unstage};
 use std::alloc::Global;
 use world_model::{Asked, Object};
+
+/// What is to be made ready: the place of the session that calls, the moment, and what it asks for.
+#[derive(Clone, Copy)]
+pub(crate) struct Call<'a> {
+    pub(crate) at: usize,
+    pub(crate) now: u64,
+    pub(crate) asked: &'a Asked,
+}
 
 /// What is due and was taken out. Its channels are out in the hub.
 #[derive(Drop)]
@@ -53,12 +62,13 @@ pub(crate) struct Ready {
 
 // Stages what the dels of objects by their deadlines bring, and then takes the channels out that are due. For want of
 // memory the channels are as before, and a part may be staged.
-fn take_out_channels(
+fn take_out_channels<G: Growths>(
     alloc: Global,
     store: &mut Store,
     held: &[Object],
     sessions: &mut Vec<Session>,
     now: u64,
+    growths: &mut G,
 ) -> Result<ExpiredChannels, NoMemory>
     requires sound { list_all is_sound_channel store.old.hub.channels ≡ true }
     requires light { store.old.channel_weight ≤ most_kept }
@@ -71,13 +81,14 @@ fn take_out_channels(
     ensures same { map session_of sessions.new.items ≡ map session_of sessions.old.items }
     ensures err { OnErr result (store.new.hub.channels ≡ store.old.hub.channels) }
 {
-    stage_dels(alloc, &store.hub, held, sessions, &mut store.steps)?;
+    stage_dels(alloc, &store.hub, held, sessions, &mut store.steps, growths)?;
     expire_channels(
         alloc,
         &mut store.hub,
         store.channel_weight,
         store.channels_due_from,
         now,
+        growths,
     )
 }
 
@@ -105,11 +116,12 @@ fn note_gone(store: &mut Store, objects: Expired, channels: ExpiredChannels) -> 
 
 // Takes out what is due, and stages what that brings. For want of memory the world is as before, and a part may be
 // staged.
-fn take_out_due(
+fn take_out_due<G: Growths>(
     alloc: Global,
     store: &mut Store,
     sessions: &mut Vec<Session>,
     now: u64,
+    growths: &mut G,
 ) -> Result<Gone, NoMemory>
     requires kept { IsStore store.old }
     requires bare { AreBare sessions.old.items }
@@ -129,8 +141,16 @@ fn take_out_due(
         store.due_from,
         now,
         &mut store.steps,
+        growths,
     )?;
-    match take_out_channels(alloc, store, objects.held.as_slice(), sessions, now) {
+    match take_out_channels(
+        alloc,
+        store,
+        objects.held.as_slice(),
+        sessions,
+        now,
+        growths,
+    ) {
         Ok(channels) => Ok(note_gone(store, objects, channels)),
         Err(NoMemory) => {
             put_back(&mut store.objects, objects.held, &mut store.steps);
@@ -140,14 +160,22 @@ fn take_out_due(
 }
 
 // Takes room for what is put.
-fn make_room_for(alloc: Global, store: &mut Store, planned: &Planned) -> Result<(), NoMemory>
+fn make_room_for<G: Growths>(
+    alloc: Global,
+    store: &mut Store,
+    planned: &Planned,
+    growths: &mut G,
+) -> Result<(), NoMemory>
     ensures kept { IsRoomier store.old store.new }
     ensures room { OnOk result (HasRoomFor store.new planned.now) }
 {
     match planned {
-        Planned::Objects(plan) => make_room(&mut store.objects, &plan.action),
+        Planned::Objects(plan) => make_room(&mut store.objects, &plan.action, growths),
         Planned::Channels(plan) => match &plan.action {
-            ChannelChange::Set(channel) => store.hub.prepare(alloc, channel),
+            ChannelChange::Set(channel) => {
+                grown(growths)?;
+                store.hub.prepare(alloc, channel)
+            }
             ChannelChange::Drop(_) => Ok(()),
         },
         Planned::Subscribed(_) => Ok(()),
@@ -155,34 +183,51 @@ fn make_room_for(alloc: Global, store: &mut Store, planned: &Planned) -> Result<
 }
 
 // Puts replies behind those of a session.
-fn add_replies(caller: &mut Session, frames: &[Text]) -> Result<(), NoMemory>
+fn add_replies<G: Growths>(
+    caller: &mut Session,
+    frames: &[Text],
+    growths: &mut G,
+) -> Result<(), NoMemory>
     ensures same { session_of caller.new ≡ session_of caller.old }
     ensures staged { caller.new.mail.staged ≡ caller.old.mail.staged }
     ensures replies { OnOk result (caller.new.mail.replies ≡ caller.old.mail.replies ++ frames.now) }
 {
     for frame in frames {
+        grown(growths)?;
         caller.add_reply(frame.bytes())?;
     }
     Ok(())
 }
 
 // Puts the frames of the reply behind what is staged for its session.
-fn hold_reply(caller: &mut Session, planned: &Planned) -> Result<(), NoMemory>
+fn hold_reply<G: Growths>(
+    caller: &mut Session,
+    planned: &Planned,
+    growths: &mut G,
+) -> Result<(), NoMemory>
     ensures same { session_of caller.new ≡ session_of caller.old }
     ensures staged { caller.new.mail.staged ≡ caller.old.mail.staged }
     ensures replies { OnOk result (caller.new.mail.replies ≡ reply_frames planned.now) }
 {
     caller.clear_replies();
     match planned {
-        Planned::Objects(plan) => caller.add_reply(plan.frame.bytes()),
-        Planned::Channels(plan) => caller.add_reply(plan.frame.bytes()),
-        Planned::Subscribed(confirmed) => add_replies(caller, confirmed.frames.as_slice()),
+        Planned::Objects(plan) => {
+            grown(growths)?;
+            caller.add_reply(plan.frame.bytes())
+        }
+        Planned::Channels(plan) => {
+            grown(growths)?;
+            caller.add_reply(plan.frame.bytes())
+        }
+        Planned::Subscribed(confirmed) => {
+            add_replies(caller, confirmed.frames.as_slice(), growths)
+        }
     }
 }
 
 // What is asked is planned for the session at a place, with the messages that it brings, its reply, which may stand in
 // the memory of a spare text, and room for the rest.
-fn plan_request(
+fn plan_request<G: Growths>(
     alloc: Global,
     store: &mut Store,
     sessions: &mut Vec<Session>,
@@ -190,6 +235,7 @@ fn plan_request(
     now: u64,
     asked: &Asked,
     spare: &mut Text,
+    growths: &mut G,
 ) -> Result<Planned, NoMemory>
     requires kept { IsStore store.old }
     requires at { at < length sessions.old.items }
@@ -207,8 +253,9 @@ fn plan_request(
         subs: sessions[at].subscriptions(),
         now,
     };
+    grown(growths)?;
     let planned = plan_asked(alloc, context, asked, &mut store.steps, spare)?;
-    make_room_for(alloc, store, &planned)?;
+    make_room_for(alloc, store, &planned, growths)?;
     stage_planned(
         alloc,
         &store.hub,
@@ -216,13 +263,14 @@ fn plan_request(
         &planned,
         sessions,
         &mut store.steps,
+        growths,
     )?;
-    hold_reply(&mut sessions[at], &planned)?;
+    hold_reply(&mut sessions[at], &planned, growths)?;
     Ok(planned)
 }
 
 // The same, but where the session has no room for what is staged for it: it will be cut, and its request not done.
-fn plan_rest(
+fn plan_rest<G: Growths>(
     alloc: Global,
     store: &mut Store,
     sessions: &mut Vec<Session>,
@@ -230,6 +278,7 @@ fn plan_rest(
     now: u64,
     asked: &Asked,
     spare: &mut Text,
+    growths: &mut G,
 ) -> Result<Option<Planned>, NoMemory>
     requires kept { IsStore store.old }
     requires at { at < length sessions.old.items }
@@ -242,7 +291,7 @@ fn plan_rest(
     if !sessions[at].has_room_left() {
         return Ok(None);
     }
-    match plan_request(alloc, store, sessions, at, now, asked, spare) {
+    match plan_request(alloc, store, sessions, at, now, asked, spare, growths) {
         Ok(planned) => Ok(Some(planned)),
         Err(NoMemory) => Err(NoMemory),
     }
@@ -263,13 +312,14 @@ fn undo(store: &mut Store, held: Vec<Object>, sums: Sums)
 }
 
 // Hands the records of what was made ready to the ledger. For want of memory what is due is put back.
-fn record_or_undo<L: RecordSink>(
+fn record_or_undo<L: RecordSink, G: Growths>(
     alloc: Global,
     store: &mut Store,
     sums: Sums,
     ready: Ready,
     records: &mut Text,
     ledger: &mut L,
+    growths: &mut G,
 ) -> Result<Ready, NoMemory>
     requires room { HaveRoom store.old.objects ready.gone.held.items }
     requires few { length (objects_in store.old.objects) + length ready.gone.held.items < 2 ^ 32 }
@@ -282,7 +332,7 @@ fn record_or_undo<L: RecordSink>(
     ensures undone { OnErr result (IsUndone store.old ready.gone.held.items sums store.new) }
     ensures unrecorded { OnErr result ((ledger.new ≡ ledger.old) ⊎ L.stays ledger.old ledger.new) }
 {
-    match record_ready(alloc, records, &store.hub, &ready, ledger) {
+    match record_ready(alloc, records, &store.hub, &ready, ledger, growths) {
         Ok(()) => Ok(ready),
         Err(NoMemory) => {
             undo(store, ready.gone.held, sums);
@@ -293,13 +343,14 @@ fn record_or_undo<L: RecordSink>(
 
 /// Makes a tick ready: takes out what is due, stages what that brings, and hands its records to the ledger. For want of
 /// memory the world is as before, and a part may be staged.
-pub(crate) fn make_tick_ready<L: RecordSink>(
+pub(crate) fn make_tick_ready<L: RecordSink, G: Growths>(
     alloc: Global,
     store: &mut Store,
     sessions: &mut Vec<Session>,
     now: u64,
     records: &mut Text,
     ledger: &mut L,
+    growths: &mut G,
 ) -> Result<Ready, NoMemory>
     requires kept { IsStore store.old }
     requires bare { AreBare sessions.old.items }
@@ -310,43 +361,60 @@ pub(crate) fn make_tick_ready<L: RecordSink>(
     ensures unrecorded { OnErr result ((ledger.new ≡ ledger.old) ⊎ L.stays ledger.old ledger.new) }
 {
     let sums = store.sums();
-    let gone = take_out_due(alloc, store, sessions, now)?;
+    let gone = take_out_due(alloc, store, sessions, now, growths)?;
     let ready = Ready {
         gone,
         planned: None,
     };
-    record_or_undo(alloc, store, sums, ready, records, ledger)
+    record_or_undo(alloc, store, sums, ready, records, ledger, growths)
 }
 
 // Makes a call of the session at a place ready, and hands its records to the ledger. For want of memory the world is as
 // before, and a part may be staged.
-fn make_ready_in_part<L: RecordSink>(
+fn make_ready_in_part<L: RecordSink, G: Growths>(
     alloc: Global,
     store: &mut Store,
     sessions: &mut Vec<Session>,
-    at: usize,
-    now: u64,
-    asked: &Asked,
+    call: Call<'_>,
     spares: &mut Spares,
     ledger: &mut L,
+    growths: &mut G,
 ) -> Result<Ready, NoMemory>
     requires kept { IsStore store.old }
     requires bare { AreBare sessions.old.items }
-    requires at { at < length sessions.old.items }
-    requires moment { now ≤ max_moment }
-    ensures ready { IfOk result (λ r. IsReady store.old now asked.now at store.new sessions.new.items r) }
+    requires at { call.at < length sessions.old.items }
+    requires moment { call.now ≤ max_moment }
+    ensures ready { IfOk result (λ r. IsReady store.old call.entry.now call.entry.asked.now call.entry.at store.new sessions.new.items r) }
     ensures recorded { IfOk result (λ r.
-        AreTaken L.takes (dues store.old now ++ writes_if r.planned) ledger.old ledger.new) }
+        AreTaken L.takes (dues store.old call.entry.now ++ writes_if r.planned) ledger.old ledger.new) }
     ensures same { map session_of sessions.new.items ≡ map session_of sessions.old.items }
     ensures err { OnErr result (IsAsBefore store.old store.new) }
     ensures unrecorded { OnErr result ((ledger.new ≡ ledger.old) ⊎ L.stays ledger.old ledger.new) }
 {
     let sums = store.sums();
-    let gone = take_out_due(alloc, store, sessions, now)?;
-    match plan_rest(alloc, store, sessions, at, now, asked, &mut spares.frame) {
+    let gone = take_out_due(alloc, store, sessions, call.now, growths)?;
+    let planned = plan_rest(
+        alloc,
+        store,
+        sessions,
+        call.at,
+        call.now,
+        call.asked,
+        &mut spares.frame,
+        growths,
+    );
+    match planned {
         Ok(planned) => {
             let ready = Ready { gone, planned };
-            record_or_undo(alloc, store, sums, ready, &mut spares.records, ledger)
+            record_or_undo(
+                alloc,
+                store,
+                sums,
+                ready,
+                &mut spares.records,
+                ledger,
+                growths,
+            )
         }
         Err(NoMemory) => {
             undo(store, gone.held, sums);
@@ -357,29 +425,28 @@ fn make_ready_in_part<L: RecordSink>(
 
 /// Makes a call of the session at a place ready, and hands its records to the ledger. For want of memory the world is
 /// as before, and nothing is staged.
-pub(crate) fn make_ready<L: RecordSink>(
+pub(crate) fn make_ready<L: RecordSink, G: Growths>(
     alloc: Global,
     store: &mut Store,
     sessions: &mut Vec<Session>,
-    at: usize,
-    now: u64,
-    asked: &Asked,
+    call: Call<'_>,
     spares: &mut Spares,
     ledger: &mut L,
+    growths: &mut G,
 ) -> Result<Ready, NoMemory>
     requires kept { IsStore store.old }
     requires bare { AreBare sessions.old.items }
-    requires at { at < length sessions.old.items }
-    requires moment { now ≤ max_moment }
-    ensures ready { IfOk result (λ r. IsReady store.old now asked.now at store.new sessions.new.items r) }
+    requires at { call.at < length sessions.old.items }
+    requires moment { call.now ≤ max_moment }
+    ensures ready { IfOk result (λ r. IsReady store.old call.entry.now call.entry.asked.now call.entry.at store.new sessions.new.items r) }
     ensures recorded { IfOk result (λ r.
-        AreTaken L.takes (dues store.old now ++ writes_if r.planned) ledger.old ledger.new) }
+        AreTaken L.takes (dues store.old call.entry.now ++ writes_if r.planned) ledger.old ledger.new) }
     ensures same { map session_of sessions.new.items ≡ map session_of sessions.old.items }
     ensures err { OnErr result (IsAsBefore store.old store.new) }
     ensures unrecorded { OnErr result ((ledger.new ≡ ledger.old) ⊎ L.stays ledger.old ledger.new) }
     ensures bare { OnErr result (AreBare sessions.new.items) }
 {
-    match make_ready_in_part(alloc, store, sessions, at, now, asked, spares, ledger) {
+    match make_ready_in_part(alloc, store, sessions, call, spares, ledger, growths) {
         Ok(ready) => Ok(ready),
         Err(NoMemory) => {
             unstage(sessions);

@@ -19,6 +19,7 @@ ghost use Rattle.object_plans.specs.Plans.{writes_of};
 ghost use Rattle.tile_core.specs.Ready.{HoldsOfObjects, planned_writes};
 ghost use Rattle.tile_core.specs.Staged.{AreStagedEach, StagesBehind, dels_of};
 
+use crate::growths::{Growths, grown};
 use byte_text::{Name, NoMemory};
 use channel_hub::Hub;
 use command_plans::{ObjectChange, Planned};
@@ -30,12 +31,13 @@ use std::alloc::Global;
 use world_model::{NameList, Object};
 
 // Stages what the del of an object by its deadline brings: channels whose deadlines come before it have gone then.
-fn stage_due(
+fn stage_due<G: Growths>(
     alloc: Global,
     hub: &Hub,
     object: &Object,
     sessions: &mut Vec<Session>,
     steps: &mut Steps<Visits>,
+    growths: &mut G,
 ) -> Result<(), NoMemory>
     requires { list_all is_sound_channel hub.now.channels ≡ true }
     ensures same { map session_of sessions.new.items ≡ map session_of sessions.old.items }
@@ -44,17 +46,19 @@ fn stage_due(
         (announced (change.Del object.now.key object.now.id)) sessions.old.items sessions.new.items) }
 {
     let gone_before = object.deadline.unwrap_or(0);
+    grown(growths)?;
     stage_del(alloc, hub, sessions, object, gone_before, steps)
 }
 
 /// Stages what the dels of objects by their deadlines bring, one after another. For want of memory a part may be
 /// staged.
-pub(crate) fn stage_dels(
+pub(crate) fn stage_dels<G: Growths>(
     alloc: Global,
     hub: &Hub,
     held: &[Object],
     sessions: &mut Vec<Session>,
     steps: &mut Steps<Visits>,
+    growths: &mut G,
 ) -> Result<(), NoMemory>
     requires { list_all is_sound_channel hub.now.channels ≡ true }
     ensures same { map session_of sessions.new.items ≡ map session_of sessions.old.items }
@@ -62,13 +66,13 @@ pub(crate) fn stage_dels(
         (AreStagedEach hub.now.channels held.now sessions.old.items sessions.new.items) }
 {
     for i in 0..held.len() {
-        stage_due(alloc, hub, &held[i], sessions, steps)?;
+        stage_due(alloc, hub, &held[i], sessions, steps, growths)?;
     }
     Ok(())
 }
 
 // Stages what the dels of the objects of a key that have these ids bring.
-fn stage_each(
+fn stage_each<G: Growths>(
     alloc: Global,
     hub: &Hub,
     objects: &Keyspace,
@@ -76,6 +80,7 @@ fn stage_each(
     ids: &NameList,
     sessions: &mut Vec<Session>,
     steps: &mut Steps<Visits>,
+    growths: &mut G,
 ) -> Result<(), NoMemory>
     requires sound { list_all is_sound_channel hub.now.channels ≡ true }
     requires there { AllThere key.now ids.now (objects_in objects.now) }
@@ -85,6 +90,7 @@ fn stage_each(
 {
     for i in 0..ids.len() {
         if let Some(object) = objects.get(key, ids.at(i)) {
+            grown(growths)?;
             stage_del(alloc, hub, sessions, object, 0, steps)?;
         }
     }
@@ -92,7 +98,7 @@ fn stage_each(
 }
 
 // Stages what the del of the object of a key and an id brings.
-fn stage_one(
+fn stage_one<G: Growths>(
     alloc: Global,
     hub: &Hub,
     objects: &Keyspace,
@@ -100,6 +106,7 @@ fn stage_one(
     id: &Name,
     sessions: &mut Vec<Session>,
     steps: &mut Steps<Visits>,
+    growths: &mut G,
 ) -> Result<(), NoMemory>
     requires sound { list_all is_sound_channel hub.now.channels ≡ true }
     requires there { AllThere key.now (id.now ∷ []) (objects_in objects.now) }
@@ -113,13 +120,16 @@ fn stage_one(
         return Ok(());
     }
     match objects.get(key, id) {
-        Some(object) => stage_del(alloc, hub, sessions, object, 0, steps),
+        Some(object) => {
+            grown(growths)?;
+            stage_del(alloc, hub, sessions, object, 0, steps)
+        }
         None => Ok(()),
     }
 }
 
 // Stages what the put of an object brings, told to those who watch where it is announced.
-fn stage_object(
+fn stage_object<G: Growths>(
     alloc: Global,
     hub: &Hub,
     objects: &Keyspace,
@@ -127,6 +137,7 @@ fn stage_object(
     announced: bool,
     sessions: &mut Vec<Session>,
     steps: &mut Steps<Visits>,
+    growths: &mut G,
 ) -> Result<(), NoMemory>
     requires { list_all is_sound_channel hub.now.channels ≡ true }
     ensures same { map session_of sessions.new.items ≡ map session_of sessions.old.items }
@@ -143,11 +154,12 @@ fn stage_object(
         return Ok(());
     }
     let old = objects.get(&object.key, &object.id);
+    grown(growths)?;
     stage_put(alloc, hub, objects, sessions, old, object, steps)
 }
 
 // Stages what a move of the objects brings.
-fn stage_move(
+fn stage_move<G: Growths>(
     alloc: Global,
     hub: &Hub,
     objects: &Keyspace,
@@ -155,6 +167,7 @@ fn stage_move(
     announced: bool,
     sessions: &mut Vec<Session>,
     steps: &mut Steps<Visits>,
+    growths: &mut G,
 ) -> Result<(), NoMemory>
     requires sound { list_all is_sound_channel hub.now.channels ≡ true }
     requires there { HaveAllThere (objects_in objects.now) action.now }
@@ -167,25 +180,31 @@ fn stage_move(
     match action {
         ObjectChange::Stay | ObjectChange::Clear => Ok(()),
         ObjectChange::Put(object) => stage_object(
-            alloc, hub, objects, object, announced, sessions, steps,
+            alloc, hub, objects, object, announced, sessions, steps, growths,
         ),
-        ObjectChange::Delete(key, id) => stage_one(alloc, hub, objects, key, id, sessions, steps),
+        ObjectChange::Delete(key, id) => stage_one(
+            alloc, hub, objects, key, id, sessions, steps, growths,
+        ),
         ObjectChange::DeleteEach(key, ids) => stage_each(
-            alloc, hub, objects, key, ids, sessions, steps,
+            alloc, hub, objects, key, ids, sessions, steps, growths,
         ),
-        ObjectChange::DropKey(key) => stage_drop(alloc, hub, sessions, key),
+        ObjectChange::DropKey(key) => {
+            grown(growths)?;
+            stage_drop(alloc, hub, sessions, key)
+        }
     }
 }
 
 /// Stages what a request brings, behind what is due. Changes of channels bring nothing. For want of memory a part may
 /// be staged.
-pub(crate) fn stage_planned(
+pub(crate) fn stage_planned<G: Growths>(
     alloc: Global,
     hub: &Hub,
     objects: &Keyspace,
     planned: &Planned,
     sessions: &mut Vec<Session>,
     steps: &mut Steps<Visits>,
+    growths: &mut G,
 ) -> Result<(), NoMemory>
     requires sound { list_all is_sound_channel hub.now.channels ≡ true }
     requires there { HoldsOfObjects (HaveAllThere (objects_in objects.now)) planned.now }
@@ -205,6 +224,7 @@ pub(crate) fn stage_planned(
                 plan.announced,
                 sessions,
                 steps,
+                growths,
             )
         }
         Planned::Channels(_plan) => Ok(()),

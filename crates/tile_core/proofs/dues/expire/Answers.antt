@@ -6,7 +6,7 @@ use Rattle.tile_core.proofs.Taken.{none_due, taken_none}
 use Rattle.tile_core.proofs.dues.expire.Goals as goal
 
 pub returns-then-now-due_from-clause-expired : goal.returns-then-now-due_from-clause-expired
-returns-then-now-due_from-clause-expired c =
+returns-then-now-due_from-clause-expired g c =
     let old = objects_in c.args.objects.now in
     record {
       taken = subst (λ (held : List Object). IsTaken old c.args.now c.args.total old held 0 c.args.total) (sym c.new.ensures.items) (taken_none old c.args.now c.args.total c.requires.kept);

@@ -9,13 +9,13 @@ use Rattle.tile_core.proofs.Taken.{room_more, weighs}
 use Rattle.tile_core.proofs.dues.take_next.Goals as goal
 
 pub put_len-requires : goal.put_len-requires
-put_len-requires c = let o = c.in-Some.object in found_holds (is_at o.key o.id) o HasFewFields (objects_in c.args.objects.now) c.in-Some.ensures.taken c.requires.few
+put_len-requires g c = let o = c.in-Some.object in found_holds (is_at o.key o.id) o HasFewFields (objects_in c.args.objects.now) c.in-Some.ensures.taken c.requires.few
 
 pub overflow_sub-gone : goal.overflow_sub-gone
-overflow_sub-gone c = omega (arith, weighs (objects_in c.args.objects.now) c.in-Some.object c.in-Some.ensures.taken, c.put_len.ensures.value, c.requires.rest)
+overflow_sub-gone g c = omega (arith, weighs (objects_in c.args.objects.now) c.in-Some.object c.in-Some.ensures.taken, c.put_len.ensures.value, c.requires.rest)
 
 pub returns-clause-taken : goal.returns-clause-taken
-returns-clause-taken c =
+returns-clause-taken g c =
     let o = c.in-Some.object in
     let less = weighs (objects_in c.args.objects.now) o c.in-Some.ensures.taken in
     λ is. record {
@@ -29,7 +29,7 @@ returns-clause-taken c =
     }
 
 pub returns-clause-room : goal.returns-clause-room
-returns-clause-room c =
+returns-clause-room g c =
     let o = c.in-Some.object in
     let held = c.args.gone.now.held.items in
     let items = c.push_reserved.ensures.items ∙ ap (λ (os : List Object). os ++ o ∷ []) c.reserve.ensures.items in

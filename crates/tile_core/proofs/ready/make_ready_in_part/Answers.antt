@@ -22,46 +22,46 @@ pub undo-requires-clause-few : goal.undo-requires-clause-few
 undo-requires-clause-few g c =
     let s = c.args.store.now in
     let count = c.in_ok-gone.ensures.taken.count in
-    let same : length (objects_in c.plan_rest.new.store.objects) ≡ length (objects_in c.take_out_due.new.store.objects) = ap length c.plan_rest.ensures.room.before.objects in
+    let same : length (objects_in c.plan_rest-planned.new.store.objects) ≡ length (objects_in c.take_out_due.new.store.objects) = ap length c.plan_rest-planned.ensures.room.before.objects in
     omega (arith, same, count, are_few (objects_in s.objects) s.weight c.requires.kept.kept)
 
 pub record_or_undo-requires-clause-few : goal.record_or_undo-requires-clause-few
 record_or_undo-requires-clause-few g c =
     let s = c.args.store.now in
     let count = c.in_ok-gone.ensures.taken.count in
-    let same : length (objects_in c.plan_rest.new.store.objects) ≡ length (objects_in c.take_out_due.new.store.objects) = ap length c.plan_rest.ensures.room.before.objects in
+    let same : length (objects_in c.plan_rest-planned.new.store.objects) ≡ length (objects_in c.take_out_due.new.store.objects) = ap length c.plan_rest-planned.ensures.room.before.objects in
     omega (arith, same, count, are_few (objects_in s.objects) s.weight c.requires.kept.kept)
 
 pub record_or_undo-requires-clause-can : goal.record_or_undo-requires-clause-can
 record_or_undo-requires-clause-can g c =
     let long = as_long c.take_out_due.new.sessions.items c.args.sessions.now.items c.take_out_due.ensures.same in
-    can_record_if c.take_out_due.new.store c.args.now c.args.asked.now c.args.at c.plan_rest.new.store c.take_out_due.new.sessions.items c.plan_rest.new.sessions.items c.in-Ok.planned (omega (arith, long, c.requires.at)) c.in-Ok.ensures.planned
+    can_record_if c.take_out_due.new.store c.args.call.now c.args.call.asked.now c.args.call.at c.plan_rest-planned.new.store c.take_out_due.new.sessions.items c.plan_rest-planned.new.sessions.items c.in-Ok.planned (omega (arith, long, c.requires.at)) c.in-Ok.ensures.planned
 
 pub returns-in-Ok-clause-ready : goal.returns-in-Ok-clause-ready
 returns-in-Ok-clause-ready g c =
     let ready : Ready = record { gone = c.in_ok-gone.gone; planned = c.in-Ok.planned } in
-    if_kept c.record_or_undo.result ready (λ r. IsReady c.args.store.now c.args.now c.args.asked.now c.args.at c.record_or_undo.new.store c.plan_rest.new.sessions.items r) c.record_or_undo.ensures.same c.record_or_undo.ensures.stays
-    (λ same. subst (λ (s : Store). IsReady c.args.store.now c.args.now c.args.asked.now c.args.at s c.plan_rest.new.sessions.items ready) (sym same)
-    (ready_from c.args.store.now c.take_out_due.new.store c.plan_rest.new.store c.args.now c.args.asked.now c.args.at c.in_ok-gone.gone
-    c.args.sessions.now.items c.take_out_due.new.sessions.items c.plan_rest.new.sessions.items
-    c.in_ok-gone.ensures.taken c.requires.at c.take_out_due.ensures.same c.plan_rest.ensures.same c.plan_rest.ensures.room.before
+    if_kept c.record_or_undo.result ready (λ r. IsReady c.args.store.now c.args.call.now c.args.call.asked.now c.args.call.at c.record_or_undo.new.store c.plan_rest-planned.new.sessions.items r) c.record_or_undo.ensures.same c.record_or_undo.ensures.stays
+    (λ same. subst (λ (s : Store). IsReady c.args.store.now c.args.call.now c.args.call.asked.now c.args.call.at s c.plan_rest-planned.new.sessions.items ready) (sym same)
+    (ready_from c.args.store.now c.take_out_due.new.store c.plan_rest-planned.new.store c.args.call.now c.args.call.asked.now c.args.call.at c.in_ok-gone.gone
+    c.args.sessions.now.items c.take_out_due.new.sessions.items c.plan_rest-planned.new.sessions.items
+    c.in_ok-gone.ensures.taken c.requires.at c.take_out_due.ensures.same c.plan_rest-planned.ensures.same c.plan_rest-planned.ensures.room.before
     c.in-Ok.planned c.in-Ok.ensures.planned))
 
 pub record_or_undo-requires-clause-rise : goal.record_or_undo-requires-clause-rise
 record_or_undo-requires-clause-rise g c =
-    subst (λ (cs : List Channel). Rise (λ d. deadline_of d.deadline) cs) (sym c.plan_rest.ensures.room.taken) c.in_ok-gone.ensures.taken.rise
+    subst (λ (cs : List Channel). Rise (λ d. deadline_of d.deadline) cs) (sym c.plan_rest-planned.ensures.room.taken) c.in_ok-gone.ensures.taken.rise
 
 pub record_or_undo-requires-clause-room : goal.record_or_undo-requires-clause-room
-record_or_undo-requires-clause-room g c = λ key. let one = c.in_ok-gone.ensures.room key in let two = c.plan_rest.ensures.room.room key in omega (arith, one, two)
+record_or_undo-requires-clause-room g c = λ key. let one = c.in_ok-gone.ensures.room key in let two = c.plan_rest-planned.ensures.room.room key in omega (arith, one, two)
 
 pub undo-requires-clause-room : goal.undo-requires-clause-room
-undo-requires-clause-room g c = λ key. let one = c.in_ok-gone.ensures.room key in let two = c.plan_rest.ensures.room.room key in omega (arith, one, two)
+undo-requires-clause-room g c = λ key. let one = c.in_ok-gone.ensures.room key in let two = c.plan_rest-planned.ensures.room.room key in omega (arith, one, two)
 
 pub returns-in-Ok-clause-recorded : goal.returns-in-Ok-clause-recorded
 returns-in-Ok-clause-recorded g c =
     let taken = c.in_ok-gone.ensures.taken in
     let ready : Ready = record { gone = c.in_ok-gone.gone; planned = c.in-Ok.planned } in
-    let turn : map going (in_turn c.in_ok-gone.gone.held.items c.plan_rest.new.store.hub.taken) ≡ dues c.args.store.now c.args.now =
-    ap (λ (cs : List Channel). map going (in_turn c.in_ok-gone.gone.held.items cs)) c.plan_rest.ensures.room.taken ∙ taken.turn in
-    if_kept c.record_or_undo.result ready (λ r. AreTaken g.L.RecordSink.takes (dues c.args.store.now c.args.now ++ writes_if r.planned) c.args.ledger.now c.record_or_undo.new.ledger) c.record_or_undo.ensures.same c.record_or_undo.ensures.recorded
+    let turn : map going (in_turn c.in_ok-gone.gone.held.items c.plan_rest-planned.new.store.hub.taken) ≡ dues c.args.store.now c.args.call.now =
+    ap (λ (cs : List Channel). map going (in_turn c.in_ok-gone.gone.held.items cs)) c.plan_rest-planned.ensures.room.taken ∙ taken.turn in
+    if_kept c.record_or_undo.result ready (λ r. AreTaken g.L.RecordSink.takes (dues c.args.store.now c.args.call.now ++ writes_if r.planned) c.args.ledger.now c.record_or_undo.new.ledger) c.record_or_undo.ensures.same c.record_or_undo.ensures.recorded
     (λ recorded. subst (λ (ws : List Write). AreTaken g.L.RecordSink.takes (ws ++ writes_if c.in-Ok.planned) c.args.ledger.now c.record_or_undo.new.ledger) turn recorded)

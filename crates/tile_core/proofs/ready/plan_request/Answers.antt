@@ -25,7 +25,7 @@ read_there : (old new : List State) (i : ℕ) (s : State) → map session_of new
 read_there old new i s same lt f = let long = as_long new old same in f (omega (arith, long, lt))
 
 pub returns-in_err-hold_reply-clause-same : goal.returns-in_err-hold_reply-clause-same
-returns-in_err-hold_reply-clause-same c =
+returns-in_err-hold_reply-clause-same g c =
     let old = c.args.sessions.now.items in
     let mid = c.stage_planned.new.sessions.items in
     let s = c.index_mut.result.now in
@@ -33,7 +33,7 @@ returns-in_err-hold_reply-clause-same c =
     same_set mid c.args.at s c.hold_reply.new.caller at c.hold_reply.ensures.same ∙ c.stage_planned.ensures.same
 
 pub returns-clause-same : goal.returns-clause-same
-returns-clause-same c =
+returns-clause-same g c =
     let old = c.args.sessions.now.items in
     let mid = c.stage_planned.new.sessions.items in
     let s = c.index_mut.result.now in
@@ -41,7 +41,7 @@ returns-clause-same c =
     same_set mid c.args.at s c.hold_reply.new.caller at c.hold_reply.ensures.same ∙ c.stage_planned.ensures.same
 
 pub returns-clause-planned : goal.returns-clause-planned
-returns-clause-planned c =
+returns-clause-planned g c =
     let store = c.args.store.now in
     let old = c.args.sessions.now.items in
     let mid = c.stage_planned.new.sessions.items in
@@ -63,24 +63,24 @@ returns-clause-planned c =
     }
 
 pub returns-clause-room : goal.returns-clause-room
-returns-clause-room c =
+returns-clause-room g c =
     let store = c.args.store.now in
     let room = c.make_room_for.new.store in
     roomier store (record store { steps = c.plan_asked.new.steps }) room (record room { steps = c.stage_planned.new.steps }) refl c.make_room_for.ensures.kept refl
 
 pub returns-in_err-hold_reply-clause-room : goal.returns-in_err-hold_reply-clause-room
-returns-in_err-hold_reply-clause-room c =
+returns-in_err-hold_reply-clause-room g c =
     let store = c.args.store.now in
     let room = c.make_room_for.new.store in
     roomier store (record store { steps = c.plan_asked.new.steps }) room (record room { steps = c.stage_planned.new.steps }) refl c.make_room_for.ensures.kept refl
 
 pub returns-in_err-stage_planned-clause-room : goal.returns-in_err-stage_planned-clause-room
-returns-in_err-stage_planned-clause-room c =
+returns-in_err-stage_planned-clause-room g c =
     let store = c.args.store.now in
     let room = c.make_room_for.new.store in
     roomier store (record store { steps = c.plan_asked.new.steps }) room (record room { steps = c.stage_planned.new.steps }) refl c.make_room_for.ensures.kept refl
 
 pub returns-in_err-make_room_for-clause-room : goal.returns-in_err-make_room_for-clause-room
-returns-in_err-make_room_for-clause-room c =
+returns-in_err-make_room_for-clause-room g c =
     let store = c.args.store.now in
     roomier store (record store { steps = c.plan_asked.new.steps }) c.make_room_for.new.store c.make_room_for.new.store refl c.make_room_for.ensures.kept refl

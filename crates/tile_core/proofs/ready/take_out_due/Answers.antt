@@ -11,18 +11,18 @@ use Rattle.tile_core.proofs.Taken.{are_few}
 use Rattle.tile_core.proofs.ready.take_out_due.Goals as goal
 
 pub put_back-requires-clause-few : goal.put_back-requires-clause-few
-put_back-requires-clause-few c =
+put_back-requires-clause-few g c =
     let s = c.args.store.now in
     let e : IsExpired (objects_in s.objects) c.args.now s.weight (objects_in c.expire.new.objects) c.in_ok-objects.objects = c.in_ok-objects.ensures.expired in
     let same = ap (λ (t : Store). length (objects_in t.objects)) c.take_out_channels.ensures.rest in
     omega (arith, e.taken.count, same, are_few (objects_in s.objects) s.weight c.requires.kept.kept)
 
 pub put_back-requires-clause-room : goal.put_back-requires-clause-room
-put_back-requires-clause-room c =
+put_back-requires-clause-room g c =
     subst (λ (xs : List Entry). HaveRoom xs c.in_ok-objects.objects.held.items) (sym (ap (λ (t : Store). t.objects) c.take_out_channels.ensures.rest)) c.in_ok-objects.ensures.room
 
 pub returns-in-Ok-clause-taken : goal.returns-in-Ok-clause-taken
-returns-in-Ok-clause-taken c =
+returns-in-Ok-clause-taken g c =
     let s = c.args.store.now in
     let mid = c.take_out_channels.new.store in
     let last = c.note_gone.new.store in
@@ -37,7 +37,7 @@ returns-in-Ok-clause-taken c =
     (subst (λ (xs : List Object). AreStagedEach s.hub.channels xs old new) c.as_slice.ensures.value c.in-Ok.ensures.staged)
 
 pub returns-in-Ok-clause-room : goal.returns-in-Ok-clause-room
-returns-in-Ok-clause-room c =
+returns-in-Ok-clause-room g c =
     let last = c.note_gone.new.store in
     let objects : last.objects ≡ c.expire.new.objects = ap (λ (t : Store). t.objects) c.note_gone.ensures.store ∙ ap (λ (t : Store). t.objects) c.take_out_channels.ensures.rest in
     subst (λ (xs : List Entry). HaveRoom xs c.note_gone.result.held.items) (sym objects)

@@ -8,7 +8,7 @@ use Rattle.tile_core.proofs.Pushing.{goes_within, it_goes, object_goes, up_to_mo
 use Rattle.tile_core.proofs.records.push_before.Goals as goal
 
 pub loop-into-preserved : goal.loop-into-preserved
-loop-into-preserved c =
+loop-into-preserved g c =
     let l = c.loop-into in
     let out = c.args.out.now in
     let o = c.args.object.now in
@@ -22,10 +22,10 @@ loop-into-preserved c =
     }
 
 pub overflow_add-next : goal.overflow_add-next
-overflow_add-next c = let short = c.goes_next.ensures.short c.loop-into-test.true in omega (arith, short)
+overflow_add-next g c = let short = c.goes_next.ensures.short c.loop-into-test.true in omega (arith, short)
 
 pub returns-clause-pushed : goal.returns-clause-pushed
-returns-clause-pushed c = λ more.
+returns-clause-pushed g c = λ more.
     let l = c.loop-into in
     let out = c.args.out.now in
     let o = c.args.object.now in

@@ -11,7 +11,7 @@ use Rattle.tile_core.proofs.Pushing.{drop_at, drop_end, up_to_more}
 use Rattle.tile_core.proofs.records.push_in_turn.Goals as goal
 
 pub loop-i-preserved : goal.loop-i-preserved
-loop-i-preserved c =
+loop-i-preserved g c =
     let l = c.loop-i in
     let held = c.args.held.now in
     let out = c.args.out.now in
@@ -29,7 +29,7 @@ loop-i-preserved c =
     }
 
 pub returns : goal.returns
-returns c =
+returns g c =
     let l = c.loop-i in
     let end : drop l.i c.args.held.now ≡ [] = drop_end c.args.held.now l.i (omega (arith, c.loop-i-test.false)) in
     let up = subst (λ (os : List Object). ArePushedUpTo (map going (in_turn c.args.held.now c.args.out.now)) (map going (in_turn os (drop l.at c.args.out.now))) c.args.into.now l.into) end l.invariant.pushed in

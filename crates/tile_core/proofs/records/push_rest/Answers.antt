@@ -8,10 +8,10 @@ use Rattle.tile_core.proofs.Pushing.{drop_at, drop_end, pushed_none, up_to_more}
 use Rattle.tile_core.proofs.records.push_rest.Goals as goal
 
 pub loop-i-init : goal.loop-i-init
-loop-i-init c = λ new p. p
+loop-i-init g c = λ new p. p
 
 pub loop-i-preserved : goal.loop-i-preserved
-loop-i-preserved c =
+loop-i-preserved g c =
     let l = c.loop-i in
     let out = c.args.out.now in
     let ch = c.at.result.now in
@@ -21,7 +21,7 @@ loop-i-preserved c =
     c.in_ok-push_deletion.ensures
 
 pub returns : goal.returns
-returns c =
+returns g c =
     let l = c.loop-i in
     let out = c.args.out.now in
     let end : drop l.i out ≡ [] = drop_end out l.i (omega (arith, c.loop-i-test.false, c.len-i-end.ensures)) in

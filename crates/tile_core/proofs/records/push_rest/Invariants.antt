@@ -5,4 +5,4 @@ use Rattle.tile_core.specs.RecordSinks.{ArePushedUpTo}
 use Rattle.tile_core.proofs.records.push_rest.Given as goal
 
 abbrev pub invariant-loop-i : goal.invariant-loop-i
-invariant-loop-i l = ArePushedUpTo (map going (deletions (drop l.from l.out))) (map going (deletions (drop l.i l.out))) l.fn.into l.into
+invariant-loop-i g l = ArePushedUpTo (map going (deletions (drop l.from l.out))) (map going (deletions (drop l.i l.out))) l.fn.into l.into

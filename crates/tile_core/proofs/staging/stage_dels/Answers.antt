@@ -9,10 +9,10 @@ use Rattle.tile_core.proofs.Behind.{each_behind}
 use Rattle.tile_core.proofs.staging.stage_dels.Goals as goal
 
 pub loop-i-init : goal.loop-i-init
-loop-i-init c = (refl, refl)
+loop-i-init g c = (refl, refl)
 
 pub loop-i-preserved : goal.loop-i-preserved
-loop-i-preserved c =
+loop-i-preserved g c =
     let l = c.loop-i in
     let held = c.args.held.now in
     let cs = c.args.hub.now.channels in
@@ -25,7 +25,7 @@ loop-i-preserved c =
     )
 
 pub returns-clause-staged : goal.returns-clause-staged
-returns-clause-staged c =
+returns-clause-staged g c =
     let l = c.loop-i in
     let held = c.args.held.now in
     subst (λ (os : List Object). AreStagedEach c.args.hub.now.channels os c.args.sessions.now.items l.sessions.items) (take_all l.i held (omega (arith, c.loop-i-test.false))) l.invariant.1

@@ -6,10 +6,10 @@ use Rattle.object_plans.specs.Moves.{world_with}
 use Rattle.tile_core.specs.Staged.{StagesBehind, dels_of}
 use Rattle.tile_core.proofs.Behind.{each_next, each_some}
 use Rattle.tile_core.proofs.staging.stage_each.Goals as goal
-use Rattle.tile_core.proofs.staging.stage_each.Goals.{in-Some+in_ok-stage_del, in_default}
+use Rattle.tile_core.proofs.staging.stage_each.Goals.{in-Some+in_ok-grown+in_ok-stage_del, in_default}
 
 pub loop-i-preserved : goal.loop-i-preserved
-loop-i-preserved c =
+loop-i-preserved g c =
     let l = c.loop-i in
     let cs = c.args.hub.now.channels in
     let xs = objects_in c.args.objects.now in
@@ -18,7 +18,7 @@ loop-i-preserved c =
     let id = c.at.result.now in
     let first = c.args.sessions.now.items in
     elim c.match-get.branch [
-      | in-Some+in_ok-stage_del w ↦
+      | in-Some+in_ok-grown+in_ok-stage_del w ↦
           let items : c.match-get.sessions.items ≡ w.stage_del.new.sessions.items = ap (λ s. s.items) w.sessions-is in (
             ap (map session_of) items ∙ w.stage_del.ensures.same ∙ l.invariant.0,
             subst (λ (ss : List State). StagesBehind (world_with cs xs) (dels_of key (take (l.i + 1) ids)) first ss) (sym items)

@@ -7,6 +7,6 @@ use Rattle.tile_core.proofs.staging.stage_each.Given as goal
 
 -- what the dels of the first ids bring is staged
 abbrev pub invariant-loop-i : goal.invariant-loop-i
-invariant-loop-i l =
+invariant-loop-i g l =
     (map session_of l.sessions.items ≡ map session_of l.initial.sessions.items)
     × StagesBehind (world_with l.hub.channels (objects_in l.objects)) (dels_of l.key (take l.i l.ids)) l.initial.sessions.items l.sessions.items

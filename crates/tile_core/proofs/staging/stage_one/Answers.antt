@@ -11,8 +11,8 @@ use Rattle.tile_core.proofs.Behind.{as_all, behind_one, on_ok}
 use Rattle.object_plans.specs.Weights.{found_at}
 use Rattle.tile_core.proofs.staging.stage_one.Goals as goal
 
-pub returns-in-Some-clause-staged : goal.returns-in-Some-clause-staged
-returns-in-Some-clause-staged c =
+pub returns-in_ok-grown-in-Some-clause-staged : goal.returns-in_ok-grown-in-Some-clause-staged
+returns-in_ok-grown-in-Some-clause-staged g c =
     let key = c.args.key.now in
     let id = c.args.id.now in
     let xs = objects_in c.args.objects.now in

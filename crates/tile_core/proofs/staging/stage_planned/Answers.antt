@@ -8,7 +8,7 @@ use Rattle.tile_core.proofs.Behind.{behind_channels}
 use Rattle.tile_core.proofs.staging.stage_planned.Goals as goal
 
 pub returns-in-Channels-clause-staged : goal.returns-in-Channels-clause-staged
-returns-in-Channels-clause-staged c =
+returns-in-Channels-clause-staged g c =
     let w = world_with c.args.hub.now.channels (objects_in c.args.objects.now) in
     let ss = c.args.sessions.now.items in
     subst (λ (p : Planned). StagesBehind w (planned_writes p) ss ss) (sym c.in-Channels.is) (behind_channels c.turn_laws.ensures.silent w c.in-Channels._plan.action ss)

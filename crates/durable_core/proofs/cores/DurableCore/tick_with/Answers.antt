@@ -9,7 +9,7 @@ use Rattle.durable_core.specs.Kept.{HasPushed}
 use Rattle.durable_core.specs.Logged.{hall_of}
 use Rattle.durable_core.specs.StepLaws.{tick_goes, fails, same_hall}
 use Rattle.durable_core.proofs.Going.{faulted, led, lifted, served, stays}
-use Rattle.durable_core.proofs.cores.DurableCore.tick.Goals as goal
+use Rattle.durable_core.proofs.cores.DurableCore.tick_with.Goals as goal
 
 pub returns-then-is_stopped-clause-log : goal.returns-then-is_stopped-clause-log
 returns-then-is_stopped-clause-log g c j keeps =
@@ -21,12 +21,12 @@ returns-in-Ok-clause-log g c j keeps =
     let D = g.D.Disk in
     let old = c.args.self.now in
     let event = event.Tick c.args.moment in
-    let answer = c.tick.result in
+    let answer = c.tick_with.result in
     let going = sym c.is_stopped.ensures ∙ c.if-is_stopped.false in
-    let took = led D.crashes D.seen D.images D.moment D.left_since g.met.D.Disk.as_read g.met.D.Disk.counts_now g.met.D.Disk.only_now c.commit_long.new.self c.tick.new.ledger (hall_of old) event answer
-    (λ is. subst (λ (h : Hall). IsRecordedBy (HasPushed D.crashes D.seen D.images) h event c.commit_long.new.self c.tick.new.ledger)
-    (sym (same_hall old.core.hall _ (old.goes_on ∙ sym going))) (c.tick.ensures.recorded is)) c.tick.ensures.unrecorded in
-    let step = lifted old.core.hall c.tick.new.self.hall event (outcome.Answered answer) _ _ old.goes_on (c.tick.ensures.stopped ∙ old.goes_on) going going c.tick.ensures.step in
+    let took = led D.crashes D.seen D.images D.moment D.left_since g.met.D.Disk.as_read g.met.D.Disk.counts_now g.met.D.Disk.only_now c.commit_long.new.self c.tick_with.new.ledger (hall_of old) event answer
+    (λ is. subst (λ (h : Hall). IsRecordedBy (HasPushed D.crashes D.seen D.images) h event c.commit_long.new.self c.tick_with.new.ledger)
+    (sym (same_hall old.core.hall _ (old.goes_on ∙ sym going))) (c.tick_with.ensures.recorded is)) c.tick_with.ensures.unrecorded in
+    let step = lifted old.core.hall c.tick_with.new.self.hall event (outcome.Answered answer) _ _ old.goes_on (c.tick_with.ensures.stopped ∙ old.goes_on) going going c.tick_with.ensures.step in
     let leads = c.in-Ok.ensures.log j (keeps going).kept in
     served D.crashes D.seen D.images D.moment D.left_since g.met.D.Disk.as_read g.met.D.Disk.counts_now g.met.D.Disk.only_now old _ c.commit_long.new.self _ event answer j leads.0 going step keeps c.commit_long.ensures.told leads.1 took refl (λ v copied batches copies. copies) refl
 

@@ -11,7 +11,7 @@ use Rattle.durable_core.specs.Rewriting.{IsCopyWhile}
 use Rattle.durable_core.specs.declared.rewritings.Rewriting.{Rewriting}
 use Rattle.durable_core.proofs.Copying.{copies_asked}
 use Rattle.durable_core.proofs.Going.{faulted, led, lifted, served, stays}
-use Rattle.durable_core.proofs.cores.DurableCore.call.Goals as goal
+use Rattle.durable_core.proofs.cores.DurableCore.call_with.Goals as goal
 
 pub returns-then-is_stopped-clause-log : goal.returns-then-is_stopped-clause-log
 returns-then-is_stopped-clause-log g c j keeps =
@@ -23,15 +23,15 @@ returns-in-Ok-clause-log g c j keeps =
     let D = g.D.Disk in
     let old = c.args.self.now in
     let event = event.Call c.args.session c.args.moment c.args.asked.now in
-    let answer = c.call-called.result in
+    let answer = c.call_with-called.result in
     let going = sym c.is_stopped.ensures ∙ c.if-is_stopped.false in
-    let took = led D.crashes D.seen D.images D.moment D.left_since g.met.D.Disk.as_read g.met.D.Disk.counts_now g.met.D.Disk.only_now c.commit_long.new.self c.call-called.new.ledger (hall_of old) event answer
-    (λ is. subst (λ (h : Hall). IsRecordedBy (HasPushed D.crashes D.seen D.images) h event c.commit_long.new.self c.call-called.new.ledger)
-    (sym (same_hall old.core.hall _ (old.goes_on ∙ sym going))) (c.call-called.ensures.recorded is)) c.call-called.ensures.unrecorded in
-    let step = lifted old.core.hall c.call-called.new.self.hall event (outcome.Answered answer) _ _ old.goes_on (c.call-called.ensures.stopped ∙ old.goes_on) going going c.call-called.ensures.step in
+    let took = led D.crashes D.seen D.images D.moment D.left_since g.met.D.Disk.as_read g.met.D.Disk.counts_now g.met.D.Disk.only_now c.commit_long.new.self c.call_with-called.new.ledger (hall_of old) event answer
+    (λ is. subst (λ (h : Hall). IsRecordedBy (HasPushed D.crashes D.seen D.images) h event c.commit_long.new.self c.call_with-called.new.ledger)
+    (sym (same_hall old.core.hall _ (old.goes_on ∙ sym going))) (c.call_with-called.ensures.recorded is)) c.call_with-called.ensures.unrecorded in
+    let step = lifted old.core.hall c.call_with-called.new.self.hall event (outcome.Answered answer) _ _ old.goes_on (c.call_with-called.ensures.stopped ∙ old.goes_on) going going c.call_with-called.ensures.step in
     let leads = c.in-Ok.ensures.log j (keeps going).kept in
-    served D.crashes D.seen D.images D.moment D.left_since g.met.D.Disk.as_read g.met.D.Disk.counts_now g.met.D.Disk.only_now old _ c.commit_long.new.self c.call-called.new.ledger event answer j leads.0 going step keeps c.commit_long.ensures.told leads.1 took c.note.ensures.journal
-    (λ v copied batches copies. subst (λ (r : Rewriting). IsCopyWhile r v copied batches) (sym c.note.ensures.rewriting) (copies_asked answer _ _ c.call-called.new.ledger.rewriting v copied batches copies)) refl
+    served D.crashes D.seen D.images D.moment D.left_since g.met.D.Disk.as_read g.met.D.Disk.counts_now g.met.D.Disk.only_now old _ c.commit_long.new.self c.call_with-called.new.ledger event answer j leads.0 going step keeps c.commit_long.ensures.told leads.1 took c.note.ensures.journal
+    (λ v copied batches copies. subst (λ (r : Rewriting). IsCopyWhile r v copied batches) (sym c.note.ensures.rewriting) (copies_asked answer _ _ c.call_with-called.new.ledger.rewriting v copied batches copies)) refl
 
 pub returns-in-Err-clause-log : goal.returns-in-Err-clause-log
 returns-in-Err-clause-log g c j keeps =

@@ -24,7 +24,7 @@ use Rattle.tile_core.proofs.NamedChanges.{is_it, named_more, room_for_one, stay,
 use Rattle.tile_core.proofs.Pushing.{recorded_by}
 use Rattle.tile_core.proofs.Readying.{as_before, as_long, same_at, same_world}
 use Rattle.tile_core.proofs.Taken.{are_few}
-use Rattle.tile_core.proofs.cores.Core.call.Goals as goal
+use Rattle.tile_core.proofs.cores.Core.call_with.Goals as goal
 
 pub served-requires : goal.served-requires
 served-requires g c =

@@ -17,7 +17,7 @@ use Rattle.tile_core.proofs.Named.{none_named, same_hall, same_room}
 use Rattle.tile_core.proofs.Pushing.{recorded_by}
 use Rattle.tile_core.proofs.Readying.{as_before, as_long, same_world}
 use Rattle.tile_core.proofs.Ticked.{tick_named, tick_room, tick_sound, tick_step, tick_writes}
-use Rattle.tile_core.proofs.cores.Core.tick.Goals as goal
+use Rattle.tile_core.proofs.cores.Core.tick_with.Goals as goal
 
 pub invariant_of-self : goal.invariant_of-self
 invariant_of-self g c =
