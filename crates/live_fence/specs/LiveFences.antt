@@ -1,7 +1,7 @@
 -- Live fences: which requests are live, and the requests that such a one becomes.
 use Rattle.std.specs.Prelude.{ℕ, Bool, false, ◌&&◌, nat_le, List, [], ◌∷◌, ◌++◌, length, Option, Some, None, is_some, if◌then◌else◌, codes, decimal}
 use Rattle.std.specs.List.{list_any}
-use Rattle.byte_text.specs.Names.{Bytes, is_word}
+use Rattle.byte_text.specs.Names.{Bytes, is_word, same}
 use Rattle.byte_text.specs.Requests.{total, max_words, max_request}
 use Rattle.world_model.specs.Commands.{command_spelled}
 use Rattle.live_fence.specs.declared.pairs.LivePair.{LivePair}
@@ -48,3 +48,8 @@ pair_of session words = record { fence = fence_request session words; listen = l
 -- what a request becomes, where it is live
 abbrev pub live_pair : ℕ → List Bytes → Option LivePair
 live_pair session words = if is_live session words then Some (pair_of session words) else None
+
+-- whatever it goes on with, a request sets the session's channel, in any case of the command's letters
+abbrev pub sets_live : ℕ → List Bytes → Bool
+sets_live session (command ∷ channel ∷ words) = is_word command (codes "SETCHAN") && same channel (live_name session)
+sets_live session words = false

@@ -6,7 +6,7 @@ ghost use Rattle.std.specs.List.{list_any};
 ghost use Rattle.byte_text.specs.Names.{is_word};
 ghost use Rattle.byte_text.specs.Requests.{FitsRequest, total, max_request};
 ghost use Rattle.world_model.specs.Commands.{command_spelled};
-ghost use Rattle.live_fence.specs.LiveFences.{live_name, is_search, begins_search, live_pair};
+ghost use Rattle.live_fence.specs.LiveFences.{live_name, is_search, begins_search, live_pair, end_request};
 ghost use Rattle.live_fence.specs.FenceWord.{has_fence, may_be_live};
 
 use byte_text::{MAX_REQUEST, MAX_WORDS, NoMemory, Request, Text, push_u64};
@@ -157,7 +157,7 @@ fn pair_of(alloc: Global, request: &Request, session: u32) -> Result<Option<Live
         return Ok(None);
     }
     let listen = named_request(alloc, b"SUBSCRIBE", channel.bytes())?;
-    let end = named_request(alloc, b"DELCHAN", channel.bytes())?;
+    let end = live_end(alloc, session)?;
     Ok(Some(LivePair { fence, listen, end }))
 }
 
@@ -175,4 +175,12 @@ pub fn live_pair(
         return Ok(None);
     }
     pair_of(alloc, request, session)
+}
+
+/// The request that deletes the channel of a session's live fence.
+pub fn live_end(alloc: Global, session: u32) -> Result<Request, NoMemory>
+    ensures { IfOk result (λ made. made ≡ end_request session) }
+{
+    let channel = channel_name(alloc, session)?;
+    named_request(alloc, b"DELCHAN", channel.bytes())
 }

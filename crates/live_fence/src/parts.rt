@@ -12,8 +12,8 @@ const MESSAGE: &[u8] = b"*3\r\n$7\r\nmessage\r\n$";
 // What stands between the number of a channel's bytes and that of its session.
 const CHANNEL: &[u8] = b"\r\nlive/";
 
-// What the bytes have behind a beginning.
-fn behind<'a>(front: &[u8], bytes: &'a [u8]) -> Option<&'a [u8]>
+/// What the bytes have behind a beginning.
+pub(crate) fn behind<'a>(front: &[u8], bytes: &'a [u8]) -> Option<&'a [u8]>
     ensures { MatchOption result (behind front.now bytes.now ≡ None)
         (λ rest. behind front.now bytes.now ≡ Some rest.now) }
 {

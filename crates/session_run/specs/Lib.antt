@@ -1,6 +1,7 @@
 pub mod Gains
 pub mod Outs
 pub mod Calls
+pub mod Live
 pub mod Feeds
 pub mod Ends
 pub mod Filling
@@ -11,3 +12,4 @@ pub mod Turns
 pub mod SoFar
 pub mod AskedSteps
 pub mod WrittenSteps
+pub mod FencedSteps

@@ -1,19 +1,19 @@
 -- What the takes of a session give.
 use Rattle.std.specs.Prelude.{ℕ, List, [], flat_map}
-use Rattle.std.specs.List.{concat}
 use Rattle.byte_text.specs.Names.{Bytes}
 use Rattle.world_model.specs.declared.events.Event.TheVariants as event
 use Rattle.world_model.specs.declared.events.Outcome.{Outcome}
 use Rattle.world_model.specs.declared.events.Outcome.TheVariants as outcome
 use Rattle.world_model.specs.Seats.{Act}
+use Rattle.session_run.specs.Live.{shown_bytes}
 
--- the bytes of the frames that a take gave, and of those that some gave
-abbrev pub given_bytes : Outcome → Bytes
-given_bytes (outcome.Given frames) = concat frames
-given_bytes o = []
+-- what the session of a number is shown of the frames that a take gave, and of those that some gave
+abbrev pub given_bytes : ℕ → Outcome → Bytes
+given_bytes n (outcome.Given frames) = shown_bytes n frames
+given_bytes n o = []
 
-abbrev pub bytes_given : List Outcome → Bytes
-bytes_given takes = flat_map given_bytes takes
+abbrev pub bytes_given : ℕ → List Outcome → Bytes
+bytes_given n takes = flat_map (given_bytes n) takes
 
 -- a take of the session with this outcome
 abbrev pub take_act : ℕ → Outcome → Act

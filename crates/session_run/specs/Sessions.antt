@@ -5,7 +5,7 @@ use Rattle.byte_text.specs.Names.{Bytes}
 use Rattle.resp_frames.specs.RequestReader.{Held}
 use Rattle.world_model.specs.declared.events.Asked.{Asked}
 use Rattle.outside.specs.Links.{LinkState}
-use Rattle.session_run.specs.Feeds.{asked_behind}
+use Rattle.session_run.specs.Feeds.{asked_next}
 use Rattle.session_run.specs.declared.ends.InEnd.{InEnd}
 use Rattle.session_run.specs.declared.phases.Asking.{Asking}
 use Rattle.session_run.specs.declared.phases.Asking.TheVariants.{Open, Breaking, Ended}
@@ -13,7 +13,8 @@ use Rattle.session_run.specs.declared.phases.TakeEnd.{TakeEnd}
 use Rattle.session_run.specs.declared.phases.TakeEnd.TheVariants.{WriteFault, Late}
 
 -- its link and its number; the bytes that begin a request, what was read behind them and not looked at yet, and the requests that wait
--- for their calls; what is to be written; how far its asking is, and how the taking of its frames ended, if it did
+-- for their calls; what is to be written; how far its asking is, and how the taking of its frames ended, if it did; and whether its calls
+-- have set its live channel
 pub record SessionState : Type 0 where
   pub line : LinkState
   pub number : ℕ
@@ -23,6 +24,7 @@ pub record SessionState : Type 0 where
   pub out : Bytes
   pub asking : Asking
   pub taking : Option TakeEnd
+  pub is_fenced : Bool
 
 -- before the first byte
 abbrev pub opened : LinkState → ℕ → SessionState
@@ -35,11 +37,12 @@ opened line number = record {
   out = [];
   asking = Open;
   taking = None;
+  is_fenced = false;
 }
 
 -- what it is still to be asked, where these bytes come behind those that were read
 abbrev pub demand : SessionState → Bytes → List Asked
-demand s more = s.asked ++ asked_behind s.held (s.rest ++ more)
+demand s more = s.asked ++ asked_next s.number s.held (s.rest ++ more)
 
 -- all that its link was written, and is to be written
 abbrev pub owed : SessionState → Option Bytes

@@ -13,6 +13,7 @@ use Rattle.outside.specs.Links.{LinkState}
 use Rattle.session_run.specs.Calls.{Call, Serves}
 use Rattle.session_run.specs.Ends.{EndsAt}
 use Rattle.session_run.specs.Feeds.{asked_by, EndsBroken}
+use Rattle.session_run.specs.Live.{asked_of}
 use Rattle.session_run.specs.Outs.{bytes_given}
 use Rattle.session_run.specs.declared.ends.InEnd.TheVariants as ended
 use Rattle.session_run.specs.declared.phases.Asking.{Asking}
@@ -21,22 +22,22 @@ use Rattle.session_run.specs.declared.phases.TakeEnd.{TakeEnd}
 use Rattle.session_run.specs.declared.phases.TakeEnd.TheVariants as taking
 use Rattle.session_run.specs.Sessions.{SessionState, demand, owed}
 
--- what these bytes ask
-abbrev pub asked_for : Bytes → List Asked
-asked_for read = asked_by (stream_of read)
+-- what the session of a number is asked of these bytes
+abbrev pub asked_for : ℕ → Bytes → List Asked
+asked_for n read = asked_of n (asked_by (stream_of read))
 
--- calls served what the bytes ask, in order, up to what is still to be asked, whatever comes behind the bytes
+-- calls served what is asked of the bytes, in order, up to what is still to be asked, whatever comes behind the bytes
 abbrev pub ServesOn : Option ℕ → List Call → Bytes → SessionState → Type 0
-ServesOn told calls read s = (more : Bytes) → Serves told calls (asked_for (read ++ more)) (demand s more)
+ServesOn told calls read s = (more : Bytes) → Serves told calls (asked_for s.number (read ++ more)) (demand s more)
 
 -- the same while the asking goes on; once it has ended, what is left over, and why
 abbrev pub Asks : Option ℕ → List Call → List Call → Bytes → SessionState → Asking → Type 0
 Asks told calls stop read s Open = (stop ≡ []) × ServesOn told calls read s
-Asks told calls stop read s Breaking = (stop ≡ []) × ServesOn told calls read s × EndsBroken (asked_for read)
-Asks told calls stop read s (Ended end) = (left : List Asked) × Serves told calls (asked_for read) left
-    × EndsAt told end stop (asked_for read) left
+Asks told calls stop read s Breaking = (stop ≡ []) × ServesOn told calls read s × EndsBroken (asked_for s.number read)
+Asks told calls stop read s (Ended end) = (left : List Asked) × Serves told calls (asked_for s.number read) left
+    × EndsAt told end stop (asked_for s.number read) left
 
--- these calls were made of a session, from its link's caller on: of what the bytes read ask, in order, each again while it is answered
+-- these calls were made of a session, from its link's caller on: of what is asked of the bytes read, in order, each again while it is answered
 -- Full, up to an end
 pub record AskedSoFar (told : Option ℕ) (made : List Call) (came : LinkState) (s : SessionState) : Type 0 where
   pub read : Bytes
@@ -49,7 +50,8 @@ pub record AskedSoFar (told : Option ℕ) (made : List Call) (came : LinkState) 
   pub cause : s.asking ≡ Ended ended.ReadFault → Rose came.faults s.line.faults
   pub later : came.faults ≤ s.line.faults
 
--- what the takes gave was written or is to be written, in order; where the link failed or was cut or memory ran out, a first part of it
+-- what is shown of what the takes gave was written or is to be written, in order; where the link failed or was cut or memory ran out, a first
+-- part of it
 abbrev pub Owes : Option TakeEnd → Option Bytes → SessionState → Bytes → Type 0
 Owes (Some taking.WriteFault) held s given = AppendsPart held (owed s) given
 Owes (Some taking.Memory) held s given = AppendsPart held (owed s) given
@@ -58,7 +60,7 @@ Owes t held s given = Appends held (owed s) given
 
 -- these takes were made of a session, from its link's caller on
 pub record WrittenSoFar (takes : List Outcome) (came : LinkState) (s : SessionState) : Type 0 where
-  pub owes : Owes s.taking came.held s (bytes_given takes)
+  pub owes : Owes s.taking came.held s (bytes_given s.number takes)
   pub last : s.taking ≡ Some taking.Ended → (before : List Outcome) × (takes ≡ before ++ outcome.Ended ∷ [])
   pub cause : s.taking ≡ Some taking.WriteFault → Rose came.faults s.line.faults
   pub later : came.faults ≤ s.line.faults
@@ -76,6 +78,9 @@ out_of e = ap (λ (s : SessionState). s.out) e
 
 pub taking_of : {a b : SessionState} → a ≡ b → a.taking ≡ b.taking
 taking_of e = ap (λ (s : SessionState). s.taking) e
+
+pub number_of : {a b : SessionState} → a ≡ b → a.number ≡ b.number
+number_of e = ap (λ (s : SessionState). s.number) e
 
 pub held_of : {a b : LinkState} → a ≡ b → a.held ≡ b.held
 held_of e = ap (λ (l : LinkState). l.held) e

@@ -1,6 +1,5 @@
 -- What one step of a session does.
 use Rattle.std.specs.Prelude.{◌≡◌, ◌⊎◌, ℕ, List, [], ◌++◌, take, drop, Option, Some, None, Result, Ok, Err}
-use Rattle.std.specs.List.{concat}
 use Rattle.byte_text.specs.Names.{Bytes}
 use Rattle.world_model.specs.declared.events.Asked.{Asked}
 use Rattle.world_model.specs.declared.events.CallOutcome.{CallOutcome}
@@ -12,6 +11,7 @@ use Rattle.outside.specs.declared.links.Got.TheVariants as got
 use Rattle.outside.specs.declared.links.Sent.{Sent}
 use Rattle.outside.specs.declared.links.Sent.TheVariants as sent
 use Rattle.session_run.specs.Ends.{end_of}
+use Rattle.session_run.specs.Live.{shown_bytes}
 use Rattle.session_run.specs.declared.ends.InEnd.{InEnd}
 use Rattle.session_run.specs.declared.ends.InEnd.TheVariants as ended
 use Rattle.session_run.specs.declared.phases.Asking.{Asking}
@@ -47,7 +47,7 @@ said_too (Ended end) f p = f p
 
 -- what a read brought was made requests, and the rest is kept; at the end and at a fault its asking ended, and it is to be asked nothing
 abbrev pub Readies : {E : Type 0} → SessionState → SessionState → Result Got E → Bytes → Type 0
-Readies old new (Ok (got.Bytes n)) into = IsFilled old.held (take n into) new.held new.rest new.asked new.asking
+Readies old new (Ok (got.Bytes n)) into = IsFilled old.number old.held (take n into) new.held new.rest new.asked new.asking
     × (new ≡ record old { line = new.line; held = new.held; rest = new.rest; asked = new.asked; asking = new.asking })
 Readies old new (Ok got.End) into = (new ≡ record old { asking = Ended ended.Over }) × (demand new [] ≡ [])
 Readies old new (Ok got.Later) into = new ≡ old
@@ -55,7 +55,7 @@ Readies old new (Err e) into = (new ≡ record old { line = new.line; asking = E
 
 -- all that was asked was answered: what is kept is made requests; where a fault was asked last, that ends the asking
 abbrev pub AsksOn : Asking → SessionState → SessionState → Type 0
-AsksOn Open old new = IsFilled old.held old.rest new.held new.rest new.asked new.asking
+AsksOn Open old new = IsFilled old.number old.held old.rest new.held new.rest new.asked new.asking
     × (new ≡ record old { held = new.held; rest = new.rest; asked = new.asked; asking = new.asking })
 AsksOn Breaking old new = (new ≡ record old { asking = Ended ended.Broken }) × ((more : Bytes) → demand new more ≡ [])
 AsksOn (Ended end) old new = new ≡ old
@@ -75,9 +75,9 @@ taking_behind (outcome.Answered called.LogFault) = Some taking.LogFault
 taking_behind (outcome.Answered called.Stopped) = Some taking.Stopped
 taking_behind o = None
 
--- the frames that a take gave are to be written behind all that is; where memory ran out they are lost, and nothing is taken any more
+-- what is shown of the frames that a take gave is to be written behind all that is; where memory ran out they are lost, and nothing is taken any more
 abbrev pub Takes : SessionState → SessionState → Outcome → Type 0
-Takes old new (outcome.Given frames) = (new ≡ record old { out = old.out ++ concat frames }) ⊎ (new ≡ record old { taking = Some taking.Memory })
+Takes old new (outcome.Given frames) = (new ≡ record old { out = old.out ++ shown_bytes old.number frames }) ⊎ (new ≡ record old { taking = Some taking.Memory })
 Takes old new o = new ≡ record old { taking = taking_behind o }
 
 -- where memory ran out for frames nothing is said of what is to be written

@@ -1,36 +1,40 @@
 //! The requests of bytes, as many as one turn carries.
 
-ghost use Rattle.std.specs.Prelude.{◌≡◌, ◌≤◌, ◌++◌, ◌∷◌, [], length, true, false, IfOk, IfErr};
+ghost use Rattle.std.specs.Prelude.{◌≡◌, ◌≤◌, ◌++◌, ◌∷◌, [], length, true, IfOk, IfErr};
 ghost use Rattle.std.specs.List.{list_all};
 ghost use Rattle.resp_frames.specs.RequestReader.{IsFed, IsNotFed};
 ghost use Rattle.world_model.specs.Outcomes.{is_proper};
 ghost use Rattle.session_run.specs.Feeds.{asked_behind};
 ghost use Rattle.session_run.specs.Filling.{IsStep, IsFill, IsFilled};
+ghost use Rattle.session_run.specs.Live.{becomes};
+ghost use Rattle.world_model.specs.declared.events.Asked.TheVariants as asks_for;
 
 use crate::ends::InEnd;
 use crate::phases::Asking;
 use crate::waiting_bytes::WaitingBytes;
-use byte_text::{requests_are_read, streams_read_once};
+use byte_text::{NoMemory, Request, requests_are_read, streams_read_once};
+use live_fence::{LivePair, live_pair};
 use resp_frames::{Fed, FeedFault, Requests};
+use std::alloc::Global;
 use world_model::{Asked, AskedList, MOST_ASKED};
 
 // What comes of the first request, or fault, of some bytes.
 #[derive(Clone, Copy, Debug, PartialEq, Eq)]
 enum Step {
-    /// A request was put last, which ends with so many bytes.
+    /// What is asked in place of a request was put last, which ends with so many bytes.
     Next(usize),
     /// No request ends in the bytes.
     Dry,
     /// The end that a fault brings was put last.
     Broken,
-    /// Nothing was put last, for want of memory.
+    /// There was no memory for what is asked.
     Memory,
 }
 
 // How far the requests of some bytes were made.
 #[derive(Clone, Copy, Debug, PartialEq, Eq)]
 enum Fill {
-    /// There are as many as one turn carries, from so many bytes.
+    /// There is no room for two more in the turn, from so many bytes.
     Full(usize),
     /// No further request ends in the bytes.
     Dry,
@@ -42,10 +46,33 @@ enum Fill {
 
 // Puts what is asked last; `false` for want of memory.
 fn push(asked: &mut AskedList, ask: Asked) -> bool
-    ensures pushed { result ≡ true → asked.new ≡ asked.old ++ ask ∷ [] }
-    ensures kept { result ≡ false → asked.new ≡ asked.old }
+    ensures { result ≡ true → asked.new ≡ asked.old ++ ask ∷ [] }
 {
     asked.push(ask).is_ok()
+}
+
+// Puts both requests of a live search last; `false` for want of memory.
+fn push_pair(asked: &mut AskedList, pair: LivePair) -> bool
+    ensures { result ≡ true
+        → asked.new ≡ asked.old ++ asks_for.Words pair.fence ∷ asks_for.Words pair.listen ∷ [] }
+{
+    let LivePair {
+        fence,
+        listen,
+        end: _,
+    } = pair;
+    push(asked, Asked::Words(fence)) && push(asked, Asked::Words(listen))
+}
+
+// Puts last what is asked in place of a request; `false` for want of memory.
+fn push_request(alloc: Global, number: u32, asked: &mut AskedList, request: Request) -> bool
+    ensures { result ≡ true → asked.new ≡ asked.old ++ becomes number (asks_for.Words request) }
+{
+    match live_pair(alloc, &request, number) {
+        Ok(None) => push(asked, Asked::Words(request)),
+        Ok(Some(pair)) => push_pair(asked, pair),
+        Err(NoMemory) => false,
+    }
 }
 
 // Feeds the bytes to a reader that holds no whole request, and holds none then.
@@ -59,10 +86,16 @@ fn feed(reader: &mut Requests, bytes: &[u8]) -> Result<Fed, FeedFault>
     reader.feed(bytes)
 }
 
-// Reads the first request of the bytes, or their fault, and puts it last.
-fn feed_next(reader: &mut Requests, bytes: &[u8], asked: &mut AskedList) -> Step
+// Reads the first request of the bytes, or their fault, and puts last what is asked in its place.
+fn feed_next(
+    alloc: Global,
+    number: u32,
+    reader: &mut Requests,
+    bytes: &[u8],
+    asked: &mut AskedList,
+) -> Step
     requires dry { asked_behind reader.old [] ≡ [] }
-    ensures step { IsStep reader.old bytes.now reader.new asked.old asked.new result }
+    ensures step { IsStep number reader.old bytes.now reader.new asked.old asked.new result }
     ensures dry { asked_behind reader.new [] ≡ [] }
 {
     // The laws that this function's proof stands on: what is read first is the stream's first request.
@@ -73,7 +106,7 @@ fn feed_next(reader: &mut Requests, bytes: &[u8], asked: &mut AskedList) -> Step
             let Fed { taken, request } = fed;
             match request {
                 Some(request) => {
-                    if push(asked, Asked::Words(request)) {
+                    if push_request(alloc, number, asked, request) {
                         Step::Next(taken)
                     } else {
                         Step::Memory
@@ -94,22 +127,32 @@ fn feed_next(reader: &mut Requests, bytes: &[u8], asked: &mut AskedList) -> Step
     }
 }
 
-// Makes the requests of the bytes, and the end that their fault brings, as many as one turn carries.
-fn collect(reader: &mut Requests, bytes: &[u8], asked: &mut AskedList) -> Fill
+// Makes the requests of the bytes, and the end that their fault brings, as many as one turn carries: as one may become
+// two, a request is read where there is room for two. For want of memory none is left.
+fn collect(
+    alloc: Global,
+    number: u32,
+    reader: &mut Requests,
+    bytes: &[u8],
+    asked: &mut AskedList,
+) -> Fill
     requires dry { asked_behind reader.old [] ≡ [] }
-    ensures fill { IsFill reader.old bytes.now reader.new asked.new result }
+    ensures fill { IsFill number reader.old bytes.now reader.new asked.new result }
     ensures dry { asked_behind reader.new [] ≡ [] }
     ensures few { length asked.new ≤ 64 }
     ensures proper { list_all is_proper asked.new ≡ true }
 {
     asked.clear();
     let mut taken = 0;
-    while asked.len() < MOST_ASKED {
-        match feed_next(reader, &bytes[taken..], asked) {
+    while asked.len() < MOST_ASKED - 1 {
+        match feed_next(alloc, number, reader, &bytes[taken..], asked) {
             Step::Next(count) => taken += count,
             Step::Dry => return Fill::Dry,
             Step::Broken => return Fill::Broken,
-            Step::Memory => return Fill::Memory,
+            Step::Memory => {
+                asked.clear();
+                return Fill::Memory;
+            }
         }
     }
     Fill::Full(taken)
@@ -117,6 +160,8 @@ fn collect(reader: &mut Requests, bytes: &[u8], asked: &mut AskedList) -> Fill
 
 /// Makes the requests of bytes that were read, as many as one turn carries, and keeps the rest.
 pub(crate) fn fill_from(
+    alloc: Global,
+    number: u32,
     reader: &mut Requests,
     bytes: &[u8],
     rest: &mut WaitingBytes,
@@ -124,12 +169,12 @@ pub(crate) fn fill_from(
 ) -> Asking
     requires dry { asked_behind reader.old [] ≡ [] }
     requires bare { rest.old ≡ [] }
-    ensures filled { IsFilled reader.old bytes.now reader.new rest.new asked.new result }
+    ensures filled { IsFilled number reader.old bytes.now reader.new rest.new asked.new result }
     ensures dry { asked_behind reader.new [] ≡ [] }
     ensures few { length asked.new ≤ 64 }
     ensures proper { list_all is_proper asked.new ≡ true }
 {
-    match collect(reader, bytes, asked) {
+    match collect(alloc, number, reader, bytes, asked) {
         Fill::Full(taken) => match rest.put(&bytes[taken..]) {
             Ok(()) => Asking::Open,
             Err(_) => Asking::Ended(InEnd::Memory),
@@ -142,17 +187,19 @@ pub(crate) fn fill_from(
 
 /// Makes the requests of the bytes that were kept, as many as one turn carries, and keeps the rest.
 pub(crate) fn refill(
+    alloc: Global,
+    number: u32,
     reader: &mut Requests,
     rest: &mut WaitingBytes,
     asked: &mut AskedList,
 ) -> Asking
     requires dry { asked_behind reader.old [] ≡ [] }
-    ensures filled { IsFilled reader.old rest.old reader.new rest.new asked.new result }
+    ensures filled { IsFilled number reader.old rest.old reader.new rest.new asked.new result }
     ensures dry { asked_behind reader.new [] ≡ [] }
     ensures few { length asked.new ≤ 64 }
     ensures proper { list_all is_proper asked.new ≡ true }
 {
-    match collect(reader, rest.bytes(), asked) {
+    match collect(alloc, number, reader, rest.bytes(), asked) {
         Fill::Full(taken) => {
             rest.pass(taken);
             Asking::Open

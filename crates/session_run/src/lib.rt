@@ -5,6 +5,7 @@
 
 mod ends;
 mod filling;
+mod live;
 mod phases;
 mod sessions;
 #[cfg(test)]

@@ -3,12 +3,13 @@
 //! It is read, asked and taken from only where nothing of it is to be written. So it holds at most the rest of one
 //! block, the requests of one turn, and the frames of one take.
 
-ghost use Rattle.std.specs.Prelude.{◌≡◌, ◌≤◌, ◌<◌, ◌++◌, [], length, take, drop, true, false, None, Decides};
-ghost use Rattle.std.specs.List.{list_all};
+ghost use Rattle.std.specs.Prelude.{◌≡◌, ◌≤◌, ◌<◌, ◌++◌, ◌||◌, [], length, take, drop, true, false, None, Decides};
+ghost use Rattle.std.specs.List.{list_all, list_any};
 ghost use Rattle.std.specs.Io.KnownBytes.{Appends, Keeps};
 ghost use Rattle.byte_text.specs.Names.{Bytes};
 ghost use Rattle.world_model.specs.Outcomes.{IsCount, is_proper, take_outcome};
 ghost use Rattle.outside.specs.Links.{GotWithin, SentWithin, Reads, Writes};
+ghost use Rattle.session_run.specs.Live.{sets_channel};
 ghost use Rattle.session_run.specs.Outs.{given_bytes};
 ghost use Rattle.session_run.specs.Sessions.{opened, demand, owed, WantsToRead, WantsTurn, WantsTake};
 ghost use Rattle.session_run.specs.Sessions.{WantsToWrite, IsOver, CanDismiss, goes_on, end_of_asking};
@@ -18,6 +19,7 @@ ghost use Rattle.session_run.specs.Filling.{IsFilled, IsFit};
 
 use crate::ends::InEnd;
 use crate::filling::{fill_from, refill};
+use crate::live::{put_shown, sets_one};
 use crate::phases::{Asking, TakeEnd, end_of};
 use crate::waiting_bytes::WaitingBytes;
 use outside::{Failed, Got, ReadyLink, Sent};
@@ -42,6 +44,8 @@ pub struct Session<K: ReadyLink> {
     out: WaitingBytes,
     asking: Asking,
     taking: Option<TakeEnd>,
+    // Its calls have set the channel of its live fence.
+    is_fenced: bool,
 }
 
 impl<K: ReadyLink> Model for Session<K> {
@@ -59,6 +63,7 @@ impl<K: ReadyLink> Model for Session<K> {
       out = s.out;
       asking = s.asking;
       taking = s.taking;
+      is_fenced = s.is_fenced;
     } };
 
     ghost invariant = { λ s. IsFit s.reader s.asked s.asking };
@@ -82,6 +87,8 @@ fn left_of(asked: AskedList, served: usize) -> AskedList
 // Goes on behind the answers to all that was asked: makes requests of what is kept, or comes to the end that a fault
 // brought.
 fn ask_on(
+    alloc: Global,
+    number: u32,
     asking: Asking,
     reader: &mut Requests,
     rest: &mut WaitingBytes,
@@ -90,14 +97,14 @@ fn ask_on(
     requires fit { IsFit reader.old asked.old asking }
     requires bare { asked.old ≡ [] }
     ensures fit { IsFit reader.new asked.new result }
-    ensures open { asking ≡ Asking.Open → IsFilled reader.old rest.old reader.new rest.new asked.new result }
+    ensures open { asking ≡ Asking.Open → IsFilled number reader.old rest.old reader.new rest.new asked.new result }
     ensures broken { asking ≡ Asking.Breaking → result ≡ Asking.Ended InEnd.Broken }
     ensures ended { goes_on asking ≡ false → result ≡ asking }
     ensures same { (asking ≡ Asking.Open → ⊥)
         → (reader.new ≡ reader.old) × (rest.new ≡ rest.old) × (asked.new ≡ asked.old) }
 {
     match asking {
-        Asking::Open => refill(reader, rest, asked),
+        Asking::Open => refill(alloc, number, reader, rest, asked),
         Asking::Breaking => Asking::Ended(InEnd::Broken),
         Asking::Ended(end) => Asking::Ended(end),
     }
@@ -118,6 +125,7 @@ impl<K: ReadyLink> Session<K> {
             out: WaitingBytes::new(alloc),
             asking: Asking::Open,
             taking: None,
+            is_fenced: false,
         }
     }
 
@@ -194,8 +202,15 @@ impl<K: ReadyLink> Session<K> {
         self.taking
     }
 
+    /// Whether its calls have set the channel of its live fence, which is to be deleted behind its removal.
+    pub fn is_fenced(&self) -> bool
+        ensures { result ≡ self.now.is_fenced }
+    {
+        self.is_fenced
+    }
+
     /// Reads once, and makes requests of what came, as many as one turn carries; the rest is kept. What it is to be
-    /// asked is what the bytes ask, in order, each once. At the end of the link, at its failure and for want of memory
+    /// asked is what the bytes ask, in order, each once, and in place of a live search the two requests that it becomes. At the end of the link, at its failure and for want of memory
     /// the asking ends so.
     pub fn on_readable(&mut self, block: &mut [u8]) -> Result<Got, Failed>
         requires some { 0 < length block.old }
@@ -210,6 +225,8 @@ impl<K: ReadyLink> Session<K> {
         match answer {
             Ok(Got::Bytes(count)) => {
                 self.asking = fill_from(
+                    self.alloc,
+                    self.number,
                     &mut self.reader,
                     &block[..count],
                     &mut self.rest,
@@ -235,23 +252,30 @@ impl<K: ReadyLink> Session<K> {
     }
 
     /// Takes back the requests of a turn with their answers. Those that were answered Ok are asked no more; Full keeps
-    /// the rest; any other answer ends the asking so. Where all are answered, requests are made of what is kept.
+    /// the rest; any other answer ends the asking so. Where all are answered, requests are made of what is kept. One of
+    /// those answered Ok may have set the channel of its live fence.
     pub fn on_answered(&mut self, asked: AskedList, answers: Answers)
         requires moved { self.old.asked ≡ [] }
         requires goes { goes_on self.old.asking ≡ true }
         requires few { length asked ≤ 64 }
         requires proper { list_all is_proper asked ≡ true }
         requires count { IsCount answers.served answers.end (length asked) }
-        ensures answered { Answered self.old self.new asked answers.served answers.end }
+        ensures answered { Answered (record self.old { is_fenced = self.new.is_fenced }) self.new
+            asked answers.served answers.end }
+        ensures fenced { self.new.is_fenced
+            ≡ (self.old.is_fenced || list_any (sets_channel self.old.number) (take answers.served asked)) }
         ensures demand { UnlessMemory self.new.asking
             ((more : Bytes) → demand (record self.old { asked = asked }) more
             ≡ take answers.served asked ++ demand self.new more) }
     {
+        self.is_fenced = self.is_fenced || sets_one(self.number, &asked, answers.served);
         self.asked = left_of(asked, answers.served);
         if let Some(end) = end_of(answers.end) {
             self.asking = Asking::Ended(end);
         } else if self.asked.len() == 0 {
             self.asking = ask_on(
+                self.alloc,
+                self.number,
                 self.asking,
                 &mut self.reader,
                 &mut self.rest,
@@ -260,17 +284,17 @@ impl<K: ReadyLink> Session<K> {
         }
     }
 
-    /// Puts what a take gave behind what is to be written. For want of memory the frames are lost, and the taking ends
-    /// so.
+    /// Puts what is shown of what a take gave behind what is to be written: of a message of its live fence the payload
+    /// alone. For want of memory the frames are lost, and the taking ends so.
     pub fn on_taken(&mut self, taken: Taken, frames: &Frames)
         requires { WantsTake self.old }
         ensures takes { Takes self.old self.new (take_outcome taken frames.now.list) }
         ensures owed { UnlessLost self.new.taking
-            (Appends (owed self.old) (owed self.new) (given_bytes (take_outcome taken frames.now.list))) }
+            (Appends (owed self.old) (owed self.new) (given_bytes self.old.number (take_outcome taken frames.now.list))) }
     {
         match taken {
             Taken::Some(_) => {
-                if self.out.put(frames.bytes()).is_err() {
+                if put_shown(&mut self.out, self.number, frames).is_err() {
                     self.taking = Some(TakeEnd::Memory);
                 }
             }
@@ -328,6 +352,7 @@ impl<K: ReadyLink> Session<K> {
             out: _,
             asking: _,
             taking: _,
+            is_fenced: _,
         } = self;
         link
     }

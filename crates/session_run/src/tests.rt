@@ -222,13 +222,13 @@ fn requests_and_frames_are_cut_anywhere(rt: HostRuntime) -> Result<(), Fail> {
 }
 
 #[test]
-fn a_turn_carries_64_requests_and_the_next_ones_the_rest(rt: HostRuntime) -> Result<(), Fail> {
+fn a_turn_carries_63_requests_and_the_next_ones_the_rest(rt: HostRuntime) -> Result<(), Fail> {
     let alloc = rt.alloc();
     for (count, most, turns) in [
-        (64u8, 64, [64].as_slice()),
-        (65, 64, &[64, 1]),
-        (130, 64, &[64, 64, 2]),
-        (65, 63, &[64, 1, 1]),
+        (63u8, 64, [63].as_slice()),
+        (64, 64, &[63, 1]),
+        (130, 64, &[63, 63, 4]),
+        (65, 62, &[63, 1, 2]),
     ] {
         let mut words = Vec::new(alloc);
         for word in 0..count {
@@ -238,6 +238,74 @@ fn a_turn_carries_64_requests_and_the_next_ones_the_rest(rt: HostRuntime) -> Res
         assert_eq!(rt; played.turns.as_slice(), turns);
         assert_eq!(rt; played.written.as_slice(), words.as_slice());
     }
+    Ok(())
+}
+
+// A live search.
+const SEARCH: &[u8] =
+    b"*8\r\n$6\r\nwithin\r\n$5\r\nfleet\r\n$5\r\nfence\r\n$6\r\nBOUNDS\r\n$1\r\n0\r\n$1\r\n0\r\n$2\r\n10\r\n\
+$2\r\n10\r\n";
+
+#[test]
+fn a_live_search_is_two_requests_of_one_turn(rt: HostRuntime) -> Result<(), Fail> {
+    let alloc = rt.alloc();
+    for (count, turns) in [
+        (0u8, [2].as_slice()),
+        (62, &[64]),
+        (63, &[63, 2]),
+        (64, &[63, 3]),
+    ] {
+        let mut words = Vec::new(alloc);
+        for word in 0..count {
+            words.push(word)?;
+        }
+        let played = play(alloc, caller(alloc, &words, SEARCH, &[], &[])?, 64)?;
+        assert_eq!(rt; played.turns.as_slice(), turns);
+        words.extend_from_slice(b"SETCHANSUBSCRIBE")?;
+        assert_eq!(rt; played.written.as_slice(), words.as_slice());
+    }
+    Ok(())
+}
+
+#[test]
+fn of_its_live_fence_the_payloads_alone_are_shown(rt: HostRuntime) -> Result<(), Fail> {
+    let alloc = rt.alloc();
+    let script = caller(alloc, b"", SEARCH, &[], &[])?;
+    let mut session = Session::new(alloc, ScriptedLink::new(alloc, 0, script), 7);
+    let mut frames = Frames::new(alloc)?;
+    for frame in [
+        b"*3\r\n$7\r\nmessage\r\n$6\r\nlive/7\r\n$2\r\n{}\r\n".as_slice(),
+        b"*3\r\n$7\r\nmessage\r\n$6\r\nlive/8\r\n$1\r\na\r\n",
+        b"*4\r\n$8\r\npmessage\r\n$1\r\n*\r\n$6\r\nlive/7\r\n$1\r\nb\r\n",
+        b"$0\r\n\r\n",
+    ] {
+        if frames.has_place() {
+            frames.put(frame)?;
+        }
+    }
+    if session.wants_take() {
+        session.on_taken(taken(&session, &frames), &frames);
+    }
+    if session.wants_to_write() {
+        let _ = session.on_writable();
+    }
+    assert!(rt; !session.is_fenced());
+    let mut block = [0; 4096];
+    if session.wants_to_read() {
+        let _ = session.on_readable(&mut block);
+    }
+    frames.clear();
+    let mut turns = Vec::new(alloc);
+    if session.wants_turn() {
+        answer(&mut session, 64, &mut turns, &mut frames)?;
+    }
+    assert!(rt; session.is_fenced());
+    assert_eq!(rt;
+        session.into_link().written(),
+        b"$2\r\n{}\r\n*3\r\n$7\r\nmessage\r\n$6\r\nlive/8\r\n$1\r\na\r\n\
+*4\r\n$8\r\npmessage\r\n$1\r\n*\r\n$6\r\nlive/7\r\n$1\r\nb\r\n$0\r\n\r\n"
+            .as_slice()
+    );
     Ok(())
 }
 

@@ -1,0 +1,5 @@
+mod Fronts
+mod Shapes
+mod Standing
+mod OneRequests
+mod WebLaws
