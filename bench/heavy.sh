@@ -39,7 +39,7 @@ def write_log(records):
     """One batch for each record on side A, behind which the gate is closed."""
     os.mkdir(os.path.join(folder, "tile-data"))
     with open(os.path.join(folder, "tile-data", "a.log"), "wb") as side:
-        side.write(b"\x01TFL\x01\x00\x00\x00" + (1).to_bytes(8, "big"))
+        side.write(b"\x01TFL\x03\x00\x00\x00" + (1).to_bytes(8, "big"))
         for it in records:
             side.write(b"\x01" + len(it).to_bytes(8, "big") + it)
         side.write(b"\x00")

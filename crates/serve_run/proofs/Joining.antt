@@ -1,5 +1,5 @@
 -- A caller that came: a session for it, or the end of its link.
-use Rattle.std.proofs.Common.{◌≡◌, ◌⊎◌, ◌≤◌, ◌+◌, ◌==◌, ℕ, Bool, true, List, [], ◌∷◌, ◌++◌, refl, sym, ap, ◌∙◌, subst, inl, inr, arith}
+use Rattle.std.proofs.Common.{◌≡◌, ◌⊎◌, ◌≤◌, ◌+◌, ◌==◌, ℕ, Bool, true, false, List, [], ◌∷◌, ◌++◌, refl, sym, ap, ◌∙◌, subst, inl, inr, arith}
 use Rattle.std.specs.Prelude.{Option, Some, None, Err, slice_set, option_map}
 use Rattle.std.specs.List.{slice_get}
 use Rattle.outside.specs.Causes.{Rose, next_count}
@@ -15,19 +15,24 @@ use Rattle.outside.specs.Links.{LinkState, IsNew}
 use Rattle.outside.specs.Waits.{WaitState}
 use Rattle.session_run.specs.Calls.{Call}
 use Rattle.session_run.specs.Gains.{Gains, gains_more, gains_one, made}
+use Rattle.session_run.specs.Live.{has_set}
 use Rattle.session_run.specs.Sessions.{SessionState, opened, end_of_asking}
 use Rattle.session_run.specs.SoFar.{AskedSoFar, WrittenSoFar}
 use Rattle.session_run.specs.AskedSteps.{asked_at_first}
 use Rattle.session_run.specs.WrittenSteps.{written_at_first}
-use Rattle.serve_run.specs.Steps.{Step, IsAmong, Joined, Removed, steps_acts, calls_of, takes_of, callers_of, numbered, behind_callers, AreTimely}
+use Rattle.serve_run.specs.Steps.{Step, IsAmong, Joined, Removed, steps_acts, calls_of, takes_of, callers_of, ends_fence, numbered, behind_callers, AreTimely}
 use Rattle.serve_run.specs.Runs.{LinkRun, LinkFate, TurnedOut, Starved, Unwatched, Served, IsRefusal, IsUnserved, fate_outcome, IsRun, AreRuns, WatchFault, MayEnd, EndCause, FateCause, IsRemoved, one_if, times, times_shut, is_through, starved_in, starved_of, told_of}
+use Rattle.serve_run.specs.declared.tendings.Tending.{Tending}
 use Rattle.serve_run.specs.declared.terms.Terms.{Terms}
+use Rattle.serve_run.specs.Follows.{tending_from, AllFollow}
 use Rattle.serve_run.specs.Loops.{Around}
 use Rattle.serve_run.specs.LoopStates.{loop_state, IsOpen, IsGone, AreGone, Holds, NeverJoined, times_open}
 use Rattle.serve_run.specs.LoopEnds.{ShutBy, HasPlace}
+use Rattle.serve_run.proofs.Following.{tends_on, follow_on}
 use Rattle.serve_run.proofs.Numbers.{never_joined}
 use Rattle.serve_run.proofs.Owners.{reassign, owner_at, owner_other, all_gone_none}
 use Rattle.serve_run.proofs.Places.{push_none, set_some, times_set, times_last}
+use Rattle.serve_run.proofs.Fencing.{fences_quiet}
 use Rattle.serve_run.proofs.Records.{Spares, spared_calls, spared_takes, callers_more, among_behind, joined_other, never_before, open_on, runs_on, runs_push, gone_push, shut_times, caller_times, starved_push, faults_on, faults_push, cause_on, causes_on, causes_push, removed_on, removed_push, among_second, through_push, shut_on, told_by, numbered_next, behind_next}
 use Rattle.serve_run.proofs.Shutting.{shut_told, shut_untold, shut_faults, shut_over_same}
 use Rattle.serve_run.proofs.Stepping.{timely_more, gains_steps}
@@ -41,8 +46,8 @@ placed_times : (old new : List (Option SessionState)) → HasPlace old new → (
 placed_times old new (inl same) c = ap (times_open c) same
 placed_times old new (inr more) c = let t = times_last c old None in ap (times_open c) more ∙ omega (arith, t)
 
-module _ (told : Option ℕ) (terms : Terms) (old : Around) (d : DoorState) (w : WaitState) (k : Knows) (places : List (Option SessionState)) (joined starved : ℕ) (is_over : Bool)
-    (came : LinkState) (is_new : IsNew d.links came) (h : Holds told terms old (loop_state k d w places joined starved is_over true)) where
+module _ (told : Option ℕ) (terms : Terms) (old : Around) (t : Tending) (d : DoorState) (w : WaitState) (k : Knows) (places : List (Option SessionState)) (joined starved : ℕ) (is_over : Bool)
+    (came : LinkState) (is_new : IsNew d.links came) (h : Holds told terms old t (loop_state k d w places joined starved is_over true)) where
   newly : IsNew came.caller came
   newly = record { caller_is = refl; unwritten = is_new.unwritten; unfailed = is_new.unfailed }
 
@@ -68,7 +73,8 @@ module _ (told : Option ℕ) (terms : Terms) (old : Around) (d : DoorState) (w :
 
   -- no session was seated for the caller: its link was shut
   module _ (k' : Knows) (w1 w' : WaitState) (places' : List (Option SessionState)) (b : Bool) (fate : LinkFate) (more : List Step) (owner : ℕ → Option ℕ)
-      (gains : Gains k k' (steps_acts more)) (timely : AreTimely told more) (one : callers_of more ≡ came.caller ∷ []) (spares : (n : ℕ) → Spares more n)
+      (gains : Gains k k' (steps_acts more)) (timely : AreTimely told more) (untold : tending_from t more ≡ t) (may : AllFollow terms t more) (one : callers_of more ≡ came.caller ∷ []) (spares : (n : ℕ) → Spares more n)
+      (quiet : (n : ℕ) → ends_fence n more ≡ false)
       (run_is : IsRun told (h.steps ++ more) (record { came = came; went = came; fate = fate; is_told = b }))
       (still : (j : ℕ) → (z : SessionState) → slice_get places j ≡ Some (Some z) → owner z.number ≡ h.owner z.number)
       (gone : AreGone owner h.runs) (off : IsGone owner fate) (placed : HasPlace places places') (waits : w1.shut ≡ w.shut) (asks : w1.over ≡ w.over) (later : w.faults ≤ w1.faults)
@@ -108,11 +114,13 @@ module _ (told : Option ℕ) (terms : Terms) (old : Around) (d : DoorState) (w :
         (λ is. shut_told w1 w' b came shuts is ∙ ap (option_map (λ (links : List LinkState). links ++ came ∷ [])) waits)
         (λ is. shut_untold w1 w' b came shuts is ∙ waits)
 
-    pub turned_away : Holds told terms old (loop_state k' (record d { links = next_count d.links }) w' places' (joined + 1) (starved + starved_in fate) is_over b)
+    pub turned_away : Holds told terms old t (loop_state k' (record d { links = next_count d.links }) w' places' (joined + 1) (starved + starved_in fate) is_over b)
     turned_away = record {
       steps = h.steps ++ more;
       gains = gains_steps old.knows k k' h.steps more h.gains gains;
       timely = timely_more told h.steps more h.timely timely;
+      tends = tends_on t t h.steps more h.tends untold;
+      follow = follow_on terms t h.steps more h.tends h.follow may;
       callers = all_callers more one;
       door_links = links_next;
       unused = unused_next more spares;
@@ -129,7 +137,8 @@ module _ (told : Option ℕ) (terms : Terms) (old : Around) (d : DoorState) (w :
       early_open = λ j z is. cause_on (MayEnd terms w.over) (MayEnd terms w'.over) (end_of_asking z.asking) z.taking may_still
           (h.early_open j z (placed_less places places' placed j z is));
       through = λ is. through_push h.runs run (h.through refl) through is;
-      removed = λ is. removed_push (h.steps ++ more) h.runs run (removed_on h.steps more h.runs (h.removed refl)) off_hall;
+      removed = λ is. removed_push (h.steps ++ more) h.runs run (removed_on h.steps more h.owner (λ n none. spares n) h.runs h.gone (h.removed refl)) off_hall;
+      fences = fences_quiet h.steps more quiet h.fences;
       addr = h.addr;
       door_ends = h.door_ends;
       over_cause = h.over_cause;
@@ -142,11 +151,11 @@ module _ (told : Option ℕ) (terms : Terms) (old : Around) (d : DoorState) (w :
 
   -- the Enter was refused
   pub turned_out : (k' : Knows) (w' : WaitState) (b : Bool) (o : Outcome) → IsRefusal o → Adds event.Enter o k k' → ShutBy w w' b came
-      → Holds told terms old (loop_state k' (record d { links = next_count d.links }) w' places (joined + 1) starved is_over b)
+      → Holds told terms old t (loop_state k' (record d { links = next_count d.links }) w' places (joined + 1) starved is_over b)
   turned_out k' w' b o is adds shuts =
-      subst (λ (n : ℕ). Holds told terms old (loop_state k' (record d { links = next_count d.links }) w' places (joined + 1) n is_over b)) (same starved)
+      subst (λ (n : ℕ). Holds told terms old t (loop_state k' (record d { links = next_count d.links }) w' places (joined + 1) n is_over b)) (same starved)
       (turned_away k' w w' places b (TurnedOut o) (Joined came.caller o ∷ []) h.owner
-      (gains_one k k' (event.Enter, o) (made event.Enter o k k' adds)) (tt, tt) refl (λ n. (refl, refl))
+      (gains_one k k' (event.Enter, o) (made event.Enter o k k' adds)) (tt, tt) refl (tt, tt) refl (λ n. (refl, refl)) (λ n. refl)
       (record { is_new = newly; joined = among_behind (Joined came.caller o) h.steps []; fate = (is, refl) })
       (λ j z there. refl) h.gone tt (inl refl) refl refl (omega arith) shuts tt tt tt refl)
     where
@@ -178,10 +187,10 @@ module _ (told : Option ℕ) (terms : Terms) (old : Around) (d : DoorState) (w :
     -- and removed again for want of memory
     pub turned_starved : (k2 : Knows) (w' : WaitState) (places' : List (Option SessionState)) (b : Bool) → Adds (event.Remove n) outcome.Done k1 k2
         → HasPlace places places' → ShutBy w w' b came
-        → Holds told terms old (loop_state k2 (record d { links = next_count d.links }) w' places' (joined + 1) (starved + 1) is_over b)
+        → Holds told terms old t (loop_state k2 (record d { links = next_count d.links }) w' places' (joined + 1) (starved + 1) is_over b)
     turned_starved k2 w' places' b removed placed shuts =
         let more : List Step = Joined came.caller (outcome.Entered n) ∷ Removed n ∷ [] in
-        turned_away k2 w w' places' b (Starved n) more (reassign h.owner n None) (removed_gains k2 removed) (tt, (tt, tt)) refl (λ m. (refl, refl))
+        turned_away k2 w w' places' b (Starved n) more (reassign h.owner n None) (removed_gains k2 removed) (tt, (tt, tt)) refl (tt, (tt, tt)) refl (λ m. (refl, refl)) (λ m. refl)
         (record { is_new = newly; joined = among_behind (Joined came.caller (outcome.Entered n)) h.steps (Removed n ∷ []); fate = unserved more (λ m. (refl, refl)) })
         (λ j z is. owner_other h.owner n None z.number (not_open j z is)) (all_gone_none h.owner n h.runs h.gone) (owner_at h.owner n None) placed refl refl (omega arith)
         shuts tt tt (among_second (Joined came.caller (outcome.Entered n)) (Removed n) h.steps) refl
@@ -189,14 +198,14 @@ module _ (told : Option ℕ) (terms : Terms) (old : Around) (d : DoorState) (w :
     -- or because its link could not be watched
     pub turned_unwatched : (k2 : Knows) (w1 w' : WaitState) (places' : List (Option SessionState)) (b : Bool) → Adds (event.Remove n) outcome.Done k1 k2
         → HasPlace places places' → Rose w.faults w1.faults → w.faults ≤ w1.faults → w1 ≡ record w { faults = w1.faults } → ShutBy w1 w' b came
-        → Holds told terms old (loop_state k2 (record d { links = next_count d.links }) w' places' (joined + 1) starved is_over b)
+        → Holds told terms old t (loop_state k2 (record d { links = next_count d.links }) w' places' (joined + 1) starved is_over b)
     turned_unwatched k2 w1 w' places' b removed placed rose later same shuts =
         let more : List Step = Joined came.caller (outcome.Entered n) ∷ Removed n ∷ [] in
         let before : old.wait.faults ≤ w.faults = h.wait_later in
         let f = shut_faults w1 w' b came shuts in
         let cause : Rose old.wait.faults w'.faults = omega (arith, rose, before, f) in
-        subst (λ (m : ℕ). Holds told terms old (loop_state k2 (record d { links = next_count d.links }) w' places' (joined + 1) m is_over b)) (none starved)
-        (turned_away k2 w1 w' places' b (Unwatched n) more (reassign h.owner n None) (removed_gains k2 removed) (tt, (tt, tt)) refl (λ m. (refl, refl))
+        subst (λ (m : ℕ). Holds told terms old t (loop_state k2 (record d { links = next_count d.links }) w' places' (joined + 1) m is_over b)) (none starved)
+        (turned_away k2 w1 w' places' b (Unwatched n) more (reassign h.owner n None) (removed_gains k2 removed) (tt, (tt, tt)) refl (tt, (tt, tt)) refl (λ m. (refl, refl)) (λ m. refl)
         (record { is_new = newly; joined = among_behind (Joined came.caller (outcome.Entered n)) h.steps (Removed n ∷ []); fate = unserved more (λ m. (refl, refl)) })
         (λ j z is. owner_other h.owner n None z.number (not_open j z is)) (all_gone_none h.owner n h.runs h.gone) (owner_at h.owner n None) placed
         (ap (λ (x : WaitState). x.shut) same) (ap (λ (x : WaitState). x.over) same) later shuts cause tt
@@ -231,6 +240,7 @@ module _ (told : Option ℕ) (terms : Terms) (old : Around) (d : DoorState) (w :
         joined = among_behind (Joined came.caller (outcome.Entered n)) h.steps [];
         asked = subst (λ (l : List Call). AskedSoFar told l came (opened came n)) (sym uncalled) (asked_at_first told came n);
         written = subst (λ (l : List Outcome). WrittenSoFar l came (opened came n)) (sym untaken) (written_at_first came n);
+        fenced = sym (ap (has_set n) uncalled);
         owned = owner_at h.owner n (Some i);
       }
 
@@ -277,12 +287,14 @@ module _ (told : Option ℕ) (terms : Terms) (old : Around) (d : DoorState) (w :
       runs_other [] are gone = tt
       runs_other (run ∷ runs) are gone = (run_other run are.0 gone.0, runs_other runs are.1 gone.1)
 
-      pub seated : Holds told terms old (loop_state k1 (record d { links = next_count d.links }) w' (slice_set mid i (Some x)) (joined + 1) starved is_over true)
-      seated = subst (λ (v : WaitState). Holds told terms old (loop_state k1 (record d { links = next_count d.links }) v (slice_set mid i (Some x)) (joined + 1) starved is_over true)) (sym same)
+      pub seated : Holds told terms old t (loop_state k1 (record d { links = next_count d.links }) w' (slice_set mid i (Some x)) (joined + 1) starved is_over true)
+      seated = subst (λ (v : WaitState). Holds told terms old t (loop_state k1 (record d { links = next_count d.links }) v (slice_set mid i (Some x)) (joined + 1) starved is_over true)) (sym same)
           (record {
             steps = h.steps ++ step;
             gains = gains_steps old.knows k k1 h.steps step h.gains (gains_one k k1 (event.Enter, outcome.Entered n) (made event.Enter (outcome.Entered n) k k1 adds));
             timely = timely_more told h.steps step h.timely (tt, tt);
+            tends = tends_on t t h.steps step h.tends refl;
+            follow = follow_on terms t h.steps step h.tends h.follow (tt, tt);
             callers = all_callers step refl;
             door_links = links_next;
             unused = unused_next step spared;
@@ -298,7 +310,8 @@ module _ (told : Option ℕ) (terms : Terms) (old : Around) (d : DoorState) (w :
             early = h.early;
             early_open = λ j z there. early_all j z (set_some mid i j x z there);
             through = h.through;
-            removed = λ g. removed_on h.steps step h.runs (h.removed g);
+            removed = λ g. removed_on h.steps step h.owner (λ m none. spared m) h.runs h.gone (h.removed g);
+            fences = fences_quiet h.steps step (λ m. refl) h.fences;
             addr = h.addr;
             door_ends = h.door_ends;
             over_cause = h.over_cause;

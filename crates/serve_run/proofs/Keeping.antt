@@ -1,8 +1,9 @@
 -- What the steps of a loop keep of its record.
-use Rattle.std.proofs.Common.{◌≡◌, ◌⊎◌, ◌+◌, ◌==◌, ℕ, Bool, false, List, [], ◌∷◌, ◌++◌, refl, sym, ap, ◌∙◌, subst, inl, inr, arith}
-use Rattle.std.specs.Prelude.{Option, Some, None, slice_set}
+use Rattle.std.proofs.Common.{◌≡◌, ◌⊎◌, ◌+◌, ◌==◌, ℕ, Bool, true, false, List, [], ◌∷◌, ◌++◌, refl, sym, ap, ◌∙◌, subst, inl, inr, arith}
+use Rattle.std.specs.Prelude.{Option, Some, None, Ok, Err, IfSome, ◌||◌, slice_set}
 use Rattle.std.specs.List.{slice_get}
 use Rattle.std.proofs.lemmas.List.{append-nil}
+use Rattle.world_model.specs.declared.events.LogState.{LogState}
 use Rattle.world_model.specs.declared.events.Outcome.{Outcome}
 use Rattle.world_model.specs.declared.events.Outcome.TheVariants as outcome
 use Rattle.world_model.specs.Seats.{Knows, Act}
@@ -10,17 +11,24 @@ use Rattle.outside.specs.Doors.{DoorState}
 use Rattle.outside.specs.Waits.{WaitState}
 use Rattle.session_run.specs.Calls.{Call}
 use Rattle.session_run.specs.Gains.{Gains}
+use Rattle.session_run.specs.Live.{has_set}
 use Rattle.session_run.specs.Sessions.{SessionState, end_of_asking}
 use Rattle.session_run.specs.SoFar.{AskedSoFar, WrittenSoFar}
-use Rattle.serve_run.specs.Steps.{Step, Tended, Shrunk, Unshrunk, Joined, step_acts, calls_of, takes_of, callers_of, IsTimely, IsAmong}
+use Rattle.serve_run.specs.Follows.{tending_behind, MayFollow}
+use Rattle.serve_run.specs.Pacing.{tended, wanted, HasGrown, HasWanted}
+use Rattle.serve_run.specs.Steps.{Step, Tended, Wanting, Shrunk, Unshrunk, Joined, step_acts, calls_of, takes_of, callers_of, ends_fence, IsTimely, IsAmong}
 use Rattle.serve_run.specs.Runs.{MayEnd, EndCause, one_if, times, times_shut}
+use Rattle.serve_run.specs.declared.tendings.Tending.{Tending}
 use Rattle.serve_run.specs.declared.tends.ServeEnd.{ServeEnd}
-use Rattle.serve_run.specs.Tends.{Tends, TendsOn, Shrinks, ShrinksOn}
+use Rattle.serve_run.specs.declared.tends.ServeEnd.TheVariants as end
+use Rattle.serve_run.specs.Tends.{IsTold, Tends, Asks, Shrinks, ShrinksOn, broken_acts}
 use Rattle.serve_run.specs.LoopEnds.{TendsTable, KeepsAside}
 use Rattle.serve_run.specs.declared.terms.Terms.{Terms}
 use Rattle.serve_run.specs.Loops.{Around}
 use Rattle.serve_run.specs.SessionSteps.{StepsSession, StepsOn, EndsEarly}
 use Rattle.serve_run.specs.LoopStates.{LoopState, loop_state, IsOpen, Holds, Keeps, KeepsTable, KeepsEarly, NeverJoined, time_at, times_open}
+use Rattle.serve_run.proofs.Fencing.{ends_second, sets_more, fences_on, fences_quiet}
+use Rattle.serve_run.proofs.Following.{own_tends, own_follow, tends_on, follow_on}
 use Rattle.serve_run.proofs.Places.{set_some, times_set, less_last, times_last}
 use Rattle.serve_run.proofs.Records.{Spares, spared_calls, spared_takes, others_spared, own_callers, callers_more, among_more, never_before, joined_other, open_on, runs_on, removed_on, among_later}
 use Rattle.serve_run.proofs.Stepping.{timely_more, calls_more, takes_more, gains_steps}
@@ -43,7 +51,7 @@ either : {P Q C : Type 0} → P ⊎ Q → (P → C) → (Q → C) → C
 either (inl p) f g = f p
 either (inr q) f g = g q
 
-module _ (told : Option ℕ) (terms : Terms) (old : Around) (s : LoopState) (h : Holds told terms old s) (i : ℕ) (x y : SessionState) (k : Knows)
+module _ (told : Option ℕ) (terms : Terms) (old : Around) (t : Tending) (s : LoopState) (h : Holds told terms old t s) (i : ℕ) (x y : SessionState) (k : Knows)
     (there : slice_get s.places i ≡ Some (Some x)) (early : Type 0) (may : early → MayEnd terms s.around.wait.over)
     (st : StepsSession told early s.around.knows k x y) where
   before : IsOpen told h.steps h.owner i x
@@ -51,6 +59,9 @@ module _ (told : Option ℕ) (terms : Terms) (old : Around) (s : LoopState) (h :
 
   spares : (m : ℕ) → (x.number ≡ m → ⊥) → Spares st.steps m
   spares m other = others_spared x.number m other st.steps st.own
+
+  fenced_on : y.is_fenced ≡ has_set x.number (calls_of x.number (h.steps ++ st.steps))
+  fenced_on = st.fenced ∙ ap (λ (b : Bool). b || has_set x.number (calls_of x.number st.steps)) before.fenced ∙ sym (sets_more x.number h.steps st.steps)
 
   went_on : IsOpen told (h.steps ++ st.steps) h.owner i y
   went_on = record {
@@ -63,6 +74,7 @@ module _ (told : Option ℕ) (terms : Terms) (old : Around) (s : LoopState) (h :
         (subst (λ (l : List Call). AskedSoFar told l before.came y) (sym (calls_more x.number h.steps st.steps)) (st.asked (calls_of x.number h.steps) before.came before.asked));
     written = subst (λ (n : ℕ). WrittenSoFar (takes_of n (h.steps ++ st.steps)) before.came y) (sym st.number)
         (subst (λ (l : List Outcome). WrittenSoFar l before.came y) (sym (takes_more x.number h.steps st.steps)) (st.written (takes_of x.number h.steps) before.came before.written));
+    fenced = subst (λ (n : ℕ). y.is_fenced ≡ has_set n (calls_of n (h.steps ++ st.steps))) (sym st.number) fenced_on;
     owned = ap h.owner st.number ∙ before.owned;
   }
 
@@ -95,11 +107,18 @@ module _ (told : Option ℕ) (terms : Terms) (old : Around) (s : LoopState) (h :
       let e : time_at c (Some y) ≡ time_at c (Some x) = ap (λ (n : ℕ). one_if (n == c)) st.caller in
       omega (arith, t, e)
 
-  pub session_on : Holds told terms old (record s { around = record s.around { knows = k }; places = slice_set s.places i (Some y) })
+  fences_here : (n : ℕ) → ends_fence n st.steps ≡ true → has_set n (calls_of n (h.steps ++ st.steps)) ≡ true
+  fences_here n e =
+      let r = st.fence_ends n e in
+      subst (λ (m : ℕ). has_set m (calls_of m (h.steps ++ st.steps)) ≡ true) (sym r.0) (sym fenced_on ∙ r.1)
+
+  pub session_on : Holds told terms old t (record s { around = record s.around { knows = k }; places = slice_set s.places i (Some y) })
   session_on = record {
     steps = h.steps ++ st.steps;
     gains = gains_steps old.knows s.around.knows k h.steps st.steps h.gains st.gains;
     timely = timely_more told h.steps st.steps h.timely st.timely;
+    tends = tends_on t t h.steps st.steps h.tends (own_tends x.number t st.steps st.own);
+    follow = follow_on terms t h.steps st.steps h.tends h.follow (own_follow x.number terms t st.steps st.own);
     callers = no_callers h.steps st.steps _ (own_callers x.number st.steps st.own) h.callers;
     door_links = h.door_links;
     unused = unused_on;
@@ -115,7 +134,8 @@ module _ (told : Option ℕ) (terms : Terms) (old : Around) (s : LoopState) (h :
     early = h.early;
     early_open = λ j z is. early_others j z (set_some s.places i j y z is);
     through = h.through;
-    removed = λ g. removed_on h.steps st.steps h.runs (h.removed g);
+    removed = λ g. removed_on h.steps st.steps h.owner (λ n none. spares n (not_gone h.owner x.number n i before.owned none)) h.runs h.gone (h.removed g);
+    fences = fences_on h.steps st.steps h.fences fences_here;
     addr = h.addr;
     door_ends = h.door_ends;
     over_cause = h.over_cause;
@@ -125,44 +145,47 @@ module _ (told : Option ℕ) (terms : Terms) (old : Around) (s : LoopState) (h :
 
   -- the session's steps are among all of them
   pub session_with : (z : Step) → IsAmong z st.steps
-      → (h' : Holds told terms old (record s { around = record s.around { knows = k }; places = slice_set s.places i (Some y) })) × IsAmong z h'.steps
+      → (h' : Holds told terms old t (record s { around = record s.around { knows = k }; places = slice_set s.places i (Some y) })) × IsAmong z h'.steps
+      × ((n : ℕ) → ends_fence n st.steps ≡ true → ends_fence n h'.steps ≡ true)
   unfolding session_on
-  session_with z a = (session_on, among_later z h.steps st.steps a)
+  session_with z a = (session_on, among_later z h.steps st.steps a, λ n e. ends_second n h.steps st.steps e)
 
 pub table_none : (told : Option ℕ) (terms : Terms) (k : Knows) (places : List (Option SessionState)) → KeepsTable told terms k k places places
-table_none told terms k places = λ d w joined starved is_over goes_on old h. h
+table_none told terms k places = λ d w joined starved is_over goes_on old t h. h
 
 pub table_more : (told : Option ℕ) (terms : Terms) (k1 k2 k3 : Knows) (a b c : List (Option SessionState)) → KeepsTable told terms k1 k2 a b
     → KeepsTable told terms k2 k3 b c → KeepsTable told terms k1 k3 a c
-table_more told terms k1 k2 k3 a b c p q = λ d w joined starved is_over goes_on old h.
-    q d w joined starved is_over goes_on old (p d w joined starved is_over goes_on old h)
+table_more told terms k1 k2 k3 a b c p q = λ d w joined starved is_over goes_on old t h.
+    q d w joined starved is_over goes_on old t (p d w joined starved is_over goes_on old t h)
 
 pub table_step : (told : Option ℕ) (terms : Terms) (k k' : Knows) (places : List (Option SessionState)) (i : ℕ) (x y : SessionState)
     → slice_get places i ≡ Some (Some x) → StepsOn told k k' x y → KeepsTable told terms k k' places (slice_set places i (Some y))
-table_step told terms k k' places i x y there st = λ d w joined starved is_over goes_on old h.
-    session_on told terms old (loop_state k d w places joined starved is_over goes_on) h i x y k' there ⊥ (λ e. absurd e) st
+table_step told terms k k' places i x y there st = λ d w joined starved is_over goes_on old t h.
+    session_on told terms old t (loop_state k d w places joined starved is_over goes_on) h i x y k' there ⊥ (λ e. absurd e) st
 
 -- ---- a session is ended by the server
 
 pub early_none : (told : Option ℕ) (terms : Terms) (k : Knows) (w : WaitState) (places : List (Option SessionState)) → KeepsEarly told terms k w places places
-early_none told terms k w places = λ d joined starved is_over goes_on old h. h
+early_none told terms k w places = λ d joined starved is_over goes_on old t h. h
 
 pub early_step : (told : Option ℕ) (terms : Terms) (k : Knows) (w : WaitState) (places : List (Option SessionState)) (i : ℕ) (x y : SessionState)
     → MayEnd terms w.over → slice_get places i ≡ Some (Some x) → EndsEarly told k x y → KeepsEarly told terms k w places (slice_set places i (Some y))
-early_step told terms k w places i x y may there st = λ d joined starved is_over goes_on old h.
-    session_on told terms old (loop_state k d w places joined starved is_over goes_on) h i x y k there (Unit {0}) (λ e. may) st
+early_step told terms k w places i x y may there st = λ d joined starved is_over goes_on old t h.
+    session_on told terms old t (loop_state k d w places joined starved is_over goes_on) h i x y k there (Unit {0}) (λ e. may) st
 
 -- ---- entries of the seat's own, for no session of the table
 
-module _ (told : Option ℕ) (terms : Terms) (k k' : Knows) (step : Step) (timely : IsTimely told step) (spares : (n : ℕ) → Spares (step ∷ []) n)
-    (nobody : callers_of (step ∷ []) ≡ []) (gains : Gains k k' (step_acts step)) where
-  pub table_aside : KeepsAside told terms k k'
+module _ (told : Option ℕ) (terms : Terms) (t : Tending) (k k' : Knows) (step : Step) (timely : IsTimely told step) (may : MayFollow terms t step) (spares : (n : ℕ) → Spares (step ∷ []) n)
+    (quiet : (n : ℕ) → ends_fence n (step ∷ []) ≡ false) (nobody : callers_of (step ∷ []) ≡ []) (gains : Gains k k' (step_acts step)) where
+  pub table_aside : KeepsAside told terms t (tending_behind t step) k k'
   table_aside = λ places d w joined starved is_over goes_on old h.
       let more : List Step = step ∷ [] in
       record {
         steps = h.steps ++ more;
         gains = gains_steps old.knows k k' h.steps more h.gains (subst (λ (l : List Act). Gains k k' l) (sym (append-nil (step_acts step))) gains);
         timely = timely_more told h.steps more h.timely (timely, tt);
+        tends = tends_on t (tending_behind t step) h.steps more h.tends refl;
+        follow = follow_on terms t h.steps more h.tends h.follow (may, tt);
         callers = no_callers h.steps more _ nobody h.callers;
         door_links = h.door_links;
         unused = λ n never.
@@ -180,7 +203,8 @@ module _ (told : Option ℕ) (terms : Terms) (k k' : Knows) (step : Step) (timel
         early = h.early;
         early_open = h.early_open;
         through = h.through;
-        removed = λ g. removed_on h.steps more h.runs (h.removed g);
+        removed = λ g. removed_on h.steps more h.owner (λ n none. spares n) h.runs h.gone (h.removed g);
+        fences = fences_quiet h.steps more quiet h.fences;
         addr = h.addr;
         door_ends = h.door_ends;
         over_cause = h.over_cause;
@@ -188,37 +212,69 @@ module _ (told : Option ℕ) (terms : Terms) (k k' : Knows) (step : Step) (timel
         wait_later = h.wait_later;
       }
 
-pub aside_none : (told : Option ℕ) (terms : Terms) (k : Knows) → KeepsAside told terms k k
-aside_none told terms k = λ places. table_none told terms k places
+pub aside_none : (told : Option ℕ) (terms : Terms) (t : Tending) (k : Knows) → KeepsAside told terms t t k k
+aside_none told terms t k = λ places d w joined starved is_over goes_on old h. h
 
-aside_more : (told : Option ℕ) (terms : Terms) (k1 k2 k3 : Knows) → KeepsAside told terms k1 k2 → KeepsAside told terms k2 k3 → KeepsAside told terms k1 k3
-aside_more told terms k1 k2 k3 p q = λ places. table_more told terms k1 k2 k3 places places places (p places) (q places)
+aside_more : (told : Option ℕ) (terms : Terms) (t1 t2 t3 : Tending) (k1 k2 k3 : Knows) → KeepsAside told terms t1 t2 k1 k2 → KeepsAside told terms t2 t3 k2 k3
+    → KeepsAside told terms t1 t3 k1 k3
+aside_more told terms t1 t2 t3 k1 k2 k3 p q = λ places d w joined starved is_over goes_on old h.
+    q places d w joined starved is_over goes_on old (p places d w joined starved is_over goes_on old h)
 
-aside_tended : (told : Option ℕ) (terms : Terms) (k k' : Knows) → TendsOn told k k' → KeepsAside told terms k k'
-aside_tended told terms k k' t = table_aside told terms k k' (Tended t.moment t.count) (t.is_told, t.few) (λ n. (refl, refl)) refl t.gains
+aside_tended : (told : Option ℕ) (terms : Terms) (t : Tending) (k k' : Knows) (m : ℕ) (log : LogState) → IsTold told m → Tends m k k' (Ok log)
+    → KeepsAside told terms t (tended t log) k k'
+aside_tended told terms t k k' m log timely is = table_aside told terms t k k' (Tended m is.0 log) (timely, is.1) tt (λ n. (refl, refl)) (λ n. refl) refl is.2
 
-aside_shrunk : (told : Option ℕ) (terms : Terms) (k k' : Knows) → ShrinksOn told k k' → KeepsAside told terms k k'
-aside_shrunk told terms k k' (inl same) = subst (λ (x : Knows). KeepsAside told terms k x) (sym same) (aside_none told terms k)
-aside_shrunk told terms k k' (inr (inl s)) = table_aside told terms k k' (Unshrunk s.0) tt (λ n. (refl, refl)) refl s.1
-aside_shrunk told terms k k' (inr (inr s)) = table_aside told terms k k' (Shrunk s.0 s.1 s.2) s.3 (λ n. (refl, refl)) refl s.4
+aside_asked : (told : Option ℕ) (terms : Terms) (t : Tending) (k k' : Knows) → HasGrown terms t → Asks told k k' → KeepsAside told terms t t k k'
+aside_asked told terms t k k' grown (inl s) = table_aside told terms t k k' (Unshrunk s.0) tt grown (λ n. (refl, refl)) (λ n. refl) refl s.1
+aside_asked told terms t k k' grown (inr s) = table_aside told terms t k k' (Shrunk s.0 s.1 s.2) s.3 grown (λ n. (refl, refl)) (λ n. refl) refl s.4
 
-pub tended_table : (told : Option ℕ) (terms : Terms) (k k' : Knows) (o : Option ServeEnd) → Tends told k k' o → TendsTable told terms k k' o
-tended_table told terms k k' None t = aside_tended told terms k k' t
-tended_table told terms k k' (Some e) t = (k, aside_none told terms k, t)
+aside_shrunk : (told : Option ℕ) (terms : Terms) (t : Tending) (k k' : Knows) → ShrinksOn told terms t k k' → KeepsAside told terms t t k k'
+aside_shrunk told terms t k k' (inl same) = subst (λ (x : Knows). KeepsAside told terms t t k x) (sym same) (aside_none told terms t k)
+aside_shrunk told terms t k k' (inr s) = aside_asked told terms t k k' s.0 s.1
 
--- behind a Tick that brought no end it was asked that the log be rewritten
-pub shrunk_table : (told : Option ℕ) (terms : Terms) (k mid k' : Knows) (o : Option ServeEnd) → Tends told k mid None → Shrinks told mid k' o
-    → TendsTable told terms k k' o
-shrunk_table told terms k mid k' None t s = aside_more told terms k mid k' (aside_tended told terms k mid t) (aside_shrunk told terms mid k' s)
-shrunk_table told terms k mid k' (Some e) t s = (mid, aside_tended told terms k mid t, s)
+-- memory was wanted, and the loop goes on
+wanted_table : (told : Option ℕ) (terms : Terms) (t t' : Tending) (k k' : Knows) (m : ℕ) → IsTold told m → Tends m k k' (Err end.Memory)
+    → (HasWanted t m → ⊥) → t' ≡ wanted t m → KeepsAside told terms t t' k k'
+wanted_table told terms t t' k k' m timely is short same =
+    subst (λ (x : Tending). KeepsAside told terms t x k k') (sym same)
+    (table_aside told terms t k k' (Wanting m is.0 is.1) (timely, is.2, is.3) short (λ n. (refl, refl)) (λ n. refl) refl is.4)
+
+-- the end came with a tick or a step behind it
+ended_table : (told : Option ℕ) (terms : Terms) (t t' : Tending) (k k' : Knows) (m : ℕ) (e : ServeEnd) → IsTold told m → Tends m k k' (Err e)
+    → (e ≡ end.Memory → HasWanted t m) → TendsTable told terms t t' k k' (Some e)
+ended_table told terms t t' k k' m e timely is long = (
+  k,
+  t,
+  aside_none told terms t k,
+  record { last = broken_acts m is.0 is.1; gains = is.4; is_last = inl (m, is.0, is.1, timely, is.2, is.3, long, refl) },
+)
+
+pub broken_table : (told : Option ℕ) (terms : Terms) (t t' : Tending) (k k' : Knows) (m : ℕ) (e : ServeEnd) (o : Option ServeEnd) → IsTold told m
+    → Tends m k k' (Err e) → IfSome o (λ x. (x ≡ e) × (x ≡ end.Memory → HasWanted t m))
+    → (o ≡ None → (e ≡ end.Memory) × (HasWanted t m → ⊥) × (t' ≡ wanted t m)) → TendsTable told terms t t' k k' o
+broken_table told terms t t' k k' m e None timely is some none =
+    let n = none refl in
+    wanted_table told terms t t' k k' m timely (subst (λ (x : ServeEnd). Tends m k k' (Err x)) n.0 is) n.1 n.2
+broken_table told terms t t' k k' m e (Some x) timely is some none =
+    ended_table told terms t t' k k' m x timely (subst (λ (y : ServeEnd). Tends m k k' (Err y)) (sym some.0) is) some.1
+
+-- behind a Tick that brought no end it was asked that the log be rewritten, or not
+pub shrunk_table : (told : Option ℕ) (terms : Terms) (t t' : Tending) (log : LogState) (k mid k' : Knows) (m : ℕ) (o : Option ServeEnd) → IsTold told m
+    → Tends m k mid (Ok log) → Shrinks told terms (tended t log) mid k' o → t' ≡ tended t log → TendsTable told terms t t' k k' o
+shrunk_table told terms t t' log k mid k' m None timely is s same =
+    subst (λ (x : Tending). KeepsAside told terms t x k k') (sym same)
+    (aside_more told terms t (tended t log) (tended t log) k mid k' (aside_tended told terms t k mid m log timely is) (aside_shrunk told terms (tended t log) mid k' s))
+shrunk_table told terms t t' log k mid k' m (Some e) timely is s same = (mid, tended t log, aside_tended told terms t k mid m log timely is, s)
 
 -- the loop ends
 pub goes_off : (told : Option ℕ) (terms : Terms) (k : Knows) (d : DoorState) (w : WaitState) (places : List (Option SessionState)) (joined starved : ℕ) (is_over goes : Bool)
     → Keeps told terms (loop_state k d w places joined starved is_over goes) (loop_state k d w places joined starved is_over false)
-goes_off told terms k d w places joined starved is_over goes = λ old h. record {
+goes_off told terms k d w places joined starved is_over goes = λ old t h. record {
   steps = h.steps;
   gains = h.gains;
   timely = h.timely;
+  tends = h.tends;
+  follow = h.follow;
   callers = h.callers;
   door_links = h.door_links;
   unused = h.unused;
@@ -235,6 +291,7 @@ goes_off told terms k d w places joined starved is_over goes = λ old h. record 
   early_open = h.early_open;
   through = λ is. absurd (cc);
   removed = λ is. absurd (cc);
+  fences = h.fences;
   addr = h.addr;
   door_ends = h.door_ends;
   over_cause = h.over_cause;
@@ -245,10 +302,12 @@ goes_off told terms k d w places joined starved is_over goes = λ old h. record 
 -- a place with nobody goes
 pub pop_none : (told : Option ℕ) (terms : Terms) (k : Knows) (d : DoorState) (w : WaitState) (places : List (Option SessionState)) (joined starved : ℕ) (is_over goes : Bool)
     → Keeps told terms (loop_state k d w (places ++ None ∷ []) joined starved is_over goes) (loop_state k d w places joined starved is_over false)
-pop_none told terms k d w places joined starved is_over goes = λ old h. record {
+pop_none told terms k d w places joined starved is_over goes = λ old t h. record {
   steps = h.steps;
   gains = h.gains;
   timely = h.timely;
+  tends = h.tends;
+  follow = h.follow;
   callers = h.callers;
   door_links = h.door_links;
   unused = h.unused;
@@ -265,6 +324,7 @@ pop_none told terms k d w places joined starved is_over goes = λ old h. record 
   early_open = λ j z is. h.early_open j z (less_last places None j z is);
   through = λ is. absurd (cc);
   removed = λ is. absurd (cc);
+  fences = h.fences;
   addr = h.addr;
   door_ends = h.door_ends;
   over_cause = h.over_cause;

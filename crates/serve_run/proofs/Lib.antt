@@ -1,11 +1,14 @@
 mod Drawn
+mod Fencing
 mod Stepping
 mod Places
 mod Records
 mod Owners
 mod Keeping
 mod Shutting
+mod Unfencing
 mod Numbers
+mod Following
 mod Joining
 mod Looping
 mod Tending

@@ -52,5 +52,6 @@ open_owner told steps owner owner' i x same o = record {
   joined = o.joined;
   asked = o.asked;
   written = o.written;
+  fenced = o.fenced;
   owned = same ∙ o.owned;
 }

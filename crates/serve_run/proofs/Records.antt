@@ -9,17 +9,19 @@ use Rattle.world_model.specs.declared.events.Outcome.{Outcome}
 use Rattle.world_model.specs.declared.events.Outcome.TheVariants as outcome
 use Rattle.outside.specs.Links.{LinkState}
 use Rattle.session_run.specs.Calls.{Call}
+use Rattle.session_run.specs.Live.{has_set}
 use Rattle.session_run.specs.Outs.{bytes_given}
 use Rattle.session_run.specs.Sessions.{SessionState}
 use Rattle.session_run.specs.SoFar.{AskedSoFar, WrittenSoFar}
 use Rattle.session_run.specs.Turns.{turn_calls}
-use Rattle.serve_run.specs.Steps.{Step, Tended, Shrunk, Unshrunk, Joined, Called, Took, Closed, Removed, calls_of, takes_of, caller_in, callers_of, numbered, behind_callers, IsAmong}
-use Rattle.serve_run.specs.Runs.{LinkRun, LinkFate, TurnedOut, Starved, Unwatched, Served, IsUnserved, HasFate, Wrote, IsRun, AreRuns, AreThrough, WatchFault, WatchFaults, MayEnd, EndCause, FateCause, FateCauses, IsRemoved, AreRemoved, is_through, one_if, times, times_shut, told_of, told_links, starved_in, starved_of}
+use Rattle.serve_run.specs.Steps.{Step, Tended, Wanting, Shrunk, Unshrunk, Joined, Called, Took, Closed, Removed, Unfenced, Unended, Unasked, calls_of, takes_of, caller_in, callers_of, numbered, behind_callers, IsAmong}
+use Rattle.serve_run.specs.Runs.{LinkRun, LinkFate, TurnedOut, Starved, Unwatched, Served, IsUnserved, HasFate, Wrote, IsRun, AreRuns, AreThrough, WatchFault, WatchFaults, MayEnd, EndCause, FateCause, FateCauses, EndsFence, IsRemoved, AreRemoved, is_through, one_if, times, times_shut, told_of, told_links, starved_in, starved_of}
 use Rattle.serve_run.specs.declared.terms.Terms.{Terms}
 use Rattle.session_run.specs.declared.ends.InEnd.{InEnd}
 use Rattle.session_run.specs.declared.phases.TakeEnd.{TakeEnd}
 use Rattle.serve_run.specs.SessionSteps.{AreOf}
 use Rattle.serve_run.specs.LoopStates.{IsOpen, IsGone, AreGone, NeverJoined}
+use Rattle.serve_run.proofs.Fencing.{ends_first}
 use Rattle.serve_run.proofs.Stepping.{calls_more, takes_more}
 
 -- these steps ask nothing for a session, and take nothing from it
@@ -39,7 +41,8 @@ not_if false xs is = refl
 -- steps of another session spare this one
 other_calls : (n m : ℕ) → (n ≡ m → ⊥) → (steps : List Step) → AreOf n steps → calls_of m steps ≡ []
 other_calls n m other [] own = refl
-other_calls n m other (Tended t count ∷ steps) own = absurd own.0
+other_calls n m other (Tended t count log ∷ steps) own = absurd own.0
+other_calls n m other (Wanting t count c ∷ steps) own = absurd own.0
 other_calls n m other (Shrunk k t c ∷ steps) own = absurd own.0
 other_calls n m other (Unshrunk o ∷ steps) own = absurd own.0
 other_calls n m other (Joined caller o ∷ steps) own = absurd own.0
@@ -49,10 +52,14 @@ other_calls n m other (Called k t asked served end ∷ steps) own =
 other_calls n m other (Took k o ∷ steps) own = other_calls n m other steps own.1
 other_calls n m other (Closed k ∷ steps) own = other_calls n m other steps own.1
 other_calls n m other (Removed k ∷ steps) own = other_calls n m other steps own.1
+other_calls n m other (Unfenced k i t c ∷ steps) own = other_calls n m other steps own.1
+other_calls n m other (Unended k o ∷ steps) own = other_calls n m other steps own.1
+other_calls n m other (Unasked k ∷ steps) own = other_calls n m other steps own.1
 
 other_takes : (n m : ℕ) → (n ≡ m → ⊥) → (steps : List Step) → AreOf n steps → takes_of m steps ≡ []
 other_takes n m other [] own = refl
-other_takes n m other (Tended t count ∷ steps) own = absurd own.0
+other_takes n m other (Tended t count log ∷ steps) own = absurd own.0
+other_takes n m other (Wanting t count c ∷ steps) own = absurd own.0
 other_takes n m other (Shrunk k t c ∷ steps) own = absurd own.0
 other_takes n m other (Unshrunk o ∷ steps) own = absurd own.0
 other_takes n m other (Joined caller o ∷ steps) own = absurd own.0
@@ -62,13 +69,17 @@ other_takes n m other (Took k o ∷ steps) own =
     ∙ other_takes n m other steps own.1
 other_takes n m other (Closed k ∷ steps) own = other_takes n m other steps own.1
 other_takes n m other (Removed k ∷ steps) own = other_takes n m other steps own.1
+other_takes n m other (Unfenced k i t c ∷ steps) own = other_takes n m other steps own.1
+other_takes n m other (Unended k o ∷ steps) own = other_takes n m other steps own.1
+other_takes n m other (Unasked k ∷ steps) own = other_takes n m other steps own.1
 
 pub others_spared : (n m : ℕ) → (n ≡ m → ⊥) → (steps : List Step) → AreOf n steps → Spares steps m
 others_spared n m other steps own = (other_calls n m other steps own, other_takes n m other steps own)
 
 pub own_callers : (n : ℕ) (steps : List Step) → AreOf n steps → callers_of steps ≡ []
 own_callers n [] own = refl
-own_callers n (Tended t count ∷ steps) own = absurd own.0
+own_callers n (Tended t count log ∷ steps) own = absurd own.0
+own_callers n (Wanting t count c ∷ steps) own = absurd own.0
 own_callers n (Shrunk k t c ∷ steps) own = absurd own.0
 own_callers n (Unshrunk o ∷ steps) own = absurd own.0
 own_callers n (Joined caller o ∷ steps) own = absurd own.0
@@ -76,6 +87,9 @@ own_callers n (Called k t asked served end ∷ steps) own = own_callers n steps 
 own_callers n (Took k o ∷ steps) own = own_callers n steps own.1
 own_callers n (Closed k ∷ steps) own = own_callers n steps own.1
 own_callers n (Removed k ∷ steps) own = own_callers n steps own.1
+own_callers n (Unfenced k i t c ∷ steps) own = own_callers n steps own.1
+own_callers n (Unended k o ∷ steps) own = own_callers n steps own.1
+own_callers n (Unasked k ∷ steps) own = own_callers n steps own.1
 
 pub callers_more : (a b : List Step) → callers_of (a ++ b) ≡ callers_of a ++ callers_of b
 callers_more a b = flat_map-append caller_in a b
@@ -105,6 +119,7 @@ open_on told steps more owner owner' i x s same o = record {
   joined = among_more (Joined o.came.caller (outcome.Entered x.number)) steps more o.joined;
   asked = subst (λ (l : List Call). AskedSoFar told l o.came x) (sym (spared_calls steps more x.number s)) o.asked;
   written = subst (λ (l : List Outcome). WrittenSoFar l o.came x) (sym (spared_takes steps more x.number s)) o.written;
+  fenced = o.fenced ∙ ap (has_set x.number) (sym (spared_calls steps more x.number s));
   owned = same ∙ o.owned;
 }
 
@@ -137,7 +152,7 @@ fate_on told steps more came went (Served n asking taking) s f = record {
   asking_ends = f.asking_ends;
   at_end = f.at_end;
   read_cause = f.read_cause;
-  wrote = subst (λ (l : List Outcome). Wrote taking came.held went.held (bytes_given l)) (sym (spared_takes steps more n s)) f.wrote;
+  wrote = subst (λ (l : List Outcome). Wrote taking came.held went.held (bytes_given n l)) (sym (spared_takes steps more n s)) f.wrote;
   last = λ is. let l = f.last is in (l.0, spared_takes steps more n s ∙ l.1);
   write_cause = f.write_cause;
 }
@@ -161,15 +176,22 @@ runs_on told steps more owner spares (run ∷ runs) gone are = (
   runs_on told steps more owner spares runs gone.1 are.1,
 )
 
-removed_fate : (steps more : List Step) (fate : LinkFate) → IsRemoved steps fate → IsRemoved (steps ++ more) fate
-removed_fate steps more (TurnedOut o) r = tt
-removed_fate steps more (Starved n) r = among_more (Removed n) steps more r
-removed_fate steps more (Unwatched n) r = among_more (Removed n) steps more r
-removed_fate steps more (Served n asking taking) r = among_more (Removed n) steps more r
+ends_on : (steps more : List Step) (n : ℕ) → Spares more n → EndsFence steps n → EndsFence (steps ++ more) n
+ends_on steps more n s ends is = ends_first n steps more (ends (ap (has_set n) (sym (spared_calls steps more n s)) ∙ is))
 
-pub removed_on : (steps more : List Step) (runs : List LinkRun) → AreRemoved steps runs → AreRemoved (steps ++ more) runs
-removed_on steps more [] r = tt
-removed_on steps more (run ∷ runs) r = (removed_fate steps more run.fate r.0, removed_on steps more runs r.1)
+removed_fate : (steps more : List Step) (fate : LinkFate) → SparesFate more fate → IsRemoved steps fate → IsRemoved (steps ++ more) fate
+removed_fate steps more (TurnedOut o) s r = tt
+removed_fate steps more (Starved n) s r = among_more (Removed n) steps more r
+removed_fate steps more (Unwatched n) s r = among_more (Removed n) steps more r
+removed_fate steps more (Served n asking taking) s r = (among_more (Removed n) steps more r.0, ends_on steps more n s r.1)
+
+pub removed_on : (steps more : List Step) (owner : ℕ → Option ℕ) → ((n : ℕ) → owner n ≡ None → Spares more n) → (runs : List LinkRun)
+    → AreGone owner runs → AreRemoved steps runs → AreRemoved (steps ++ more) runs
+removed_on steps more owner spares [] gone r = tt
+removed_on steps more owner spares (run ∷ runs) gone r = (
+  removed_fate steps more run.fate (fate_spared more owner run.fate spares gone.0) r.0,
+  removed_on steps more owner spares runs gone.1 r.1,
+)
 
 pub removed_push : (steps : List Step) (runs : List LinkRun) (run : LinkRun) → AreRemoved steps runs → IsRemoved steps run.fate
     → AreRemoved steps (runs ++ run ∷ [])

@@ -1,5 +1,5 @@
 -- A session that leaves the table, and its link's run.
-use Rattle.std.proofs.Common.{◌≡◌, ◌≤◌, ◌<◌, ◌+◌, ◌==◌, ℕ, Bool, true, false, List, [], ◌∷◌, ◌++◌, refl, sym, ap, subst, arith, inl}
+use Rattle.std.proofs.Common.{◌≡◌, ◌≤◌, ◌<◌, ◌+◌, ◌==◌, ℕ, Bool, true, false, List, [], ◌∷◌, ◌++◌, refl, sym, ap, ◌∙◌, subst, arith, inl, inr}
 use Rattle.std.specs.Prelude.{Option, Some, None, slice_set, option_map, length}
 use Rattle.std.specs.List.{slice_get}
 use Rattle.std.specs.Io.KnownBytes.{append_known, Appends}
@@ -8,15 +8,12 @@ use Rattle.outside.specs.Causes.{Rose}
 use Rattle.outside.specs.Writing.{AppendsPart}
 use Rattle.byte_text.specs.Names.{Bytes}
 use Rattle.world_model.specs.declared.events.Asked.{Asked}
-use Rattle.world_model.specs.declared.events.Event.TheVariants as event
-use Rattle.world_model.specs.declared.events.Outcome.{Outcome}
-use Rattle.world_model.specs.declared.events.Outcome.TheVariants as outcome
-use Rattle.world_model.specs.Seats.{Knows, Adds}
+use Rattle.world_model.specs.Seats.{Knows}
 use Rattle.outside.specs.Links.{LinkState}
 use Rattle.outside.specs.Doors.{DoorState}
 use Rattle.outside.specs.Waits.{WaitState}
-use Rattle.session_run.specs.Calls.{Call, Serves}
-use Rattle.session_run.specs.Gains.{gains_one, made}
+use Rattle.session_run.specs.Calls.{Serves}
+use Rattle.session_run.specs.Live.{has_set}
 use Rattle.session_run.specs.Outs.{bytes_given}
 use Rattle.session_run.specs.declared.ends.InEnd.{InEnd}
 use Rattle.session_run.specs.declared.ends.InEnd.TheVariants as ended
@@ -26,16 +23,18 @@ use Rattle.session_run.specs.declared.phases.TakeEnd.{TakeEnd}
 use Rattle.session_run.specs.declared.phases.TakeEnd.TheVariants as took
 use Rattle.session_run.specs.Owing.{owed_all}
 use Rattle.session_run.specs.Sessions.{SessionState, demand, owed, can_write, IsOver, end_of_asking}
-use Rattle.session_run.specs.SoFar.{asked_for, Asks, AskedSoFar, Owes, WrittenSoFar}
+use Rattle.session_run.specs.SoFar.{asked_for, Asks, Owes}
 use Rattle.session_run.specs.WrittenSteps.{written_part}
-use Rattle.serve_run.specs.Steps.{Step, Removed, IsAmong, takes_of, callers_of}
-use Rattle.serve_run.specs.Runs.{LinkRun, Served, AskingEnds, Wrote, IsServed, is_through, MayEnd, EndCause, one_if, times, times_shut}
+use Rattle.serve_run.specs.declared.tends.ServeEnd.{ServeEnd}
+use Rattle.serve_run.specs.Steps.{Step, Removed, IsAmong, calls_of, takes_of, callers_of}
+use Rattle.serve_run.specs.Runs.{LinkRun, Served, AskingEnds, Wrote, IsServed, EndsFence, is_through, MayEnd, EndCause, one_if, times, times_shut}
+use Rattle.serve_run.specs.declared.tendings.Tending.{Tending}
 use Rattle.serve_run.specs.declared.terms.Terms.{Terms}
 use Rattle.serve_run.specs.Loops.{Around}
-use Rattle.serve_run.specs.SessionSteps.{RemovesSession}
-use Rattle.serve_run.specs.LoopStates.{LoopState, loop_state, IsOpen, Holds, Keeps, KeepsShut, times_open}
-use Rattle.serve_run.specs.LoopEnds.{ShutBy}
-use Rattle.serve_run.proofs.Keeping.{session_with, other_place}
+use Rattle.serve_run.specs.SessionSteps.{StepsOn, RemovesSession, RemovesTo}
+use Rattle.serve_run.specs.LoopStates.{LoopState, loop_state, IsOpen, Holds, Keeps, KeepsTable, KeepsShut, KeepsShutTo, times_open}
+use Rattle.serve_run.specs.LoopEnds.{ShutBy, end_behind}
+use Rattle.serve_run.proofs.Keeping.{session_on, session_with, other_place}
 use Rattle.serve_run.proofs.Owners.{reassign, owner_at, owner_other, all_gone_none, open_owner}
 use Rattle.serve_run.proofs.Places.{set_none, set_again, set_there, times_set, less_last, not_last, at_last, times_last}
 use Rattle.serve_run.proofs.Records.{runs_push, gone_push, shut_times, starved_push, faults_on, faults_push, cause_on, causes_on, causes_push, removed_push, through_push, shut_on, told_by}
@@ -70,13 +69,13 @@ ended_is (Ended end) e is = let same : end ≡ e = cc in ap (λ (x : InEnd). End
 
 module _ (told : Option ℕ) (steps : List Step) (owner : ℕ → Option ℕ) (i : ℕ) (x : SessionState) (o : IsOpen told steps owner i x) where
   abbrev given : Bytes
-  given = bytes_given (takes_of x.number steps)
+  given = bytes_given x.number (takes_of x.number steps)
 
-  all_asked : (s : Serves told o.asked.calls (asked_for (o.asked.read ++ [])) (demand x [])) → Serves told o.asked.calls (asked_for o.asked.read) (demand x [])
-  all_asked s = subst (λ (l : Bytes). Serves told o.asked.calls (asked_for l) (demand x [])) (append-nil o.asked.read) s
+  all_asked : (s : Serves told o.asked.calls (asked_for x.number (o.asked.read ++ [])) (demand x [])) → Serves told o.asked.calls (asked_for x.number o.asked.read) (demand x [])
+  all_asked s = subst (λ (l : Bytes). Serves told o.asked.calls (asked_for x.number l) (demand x [])) (append-nil o.asked.read) s
 
   ends_by : (asking : Asking) → Asks told o.asked.calls o.asked.stop o.asked.read x asking
-      → (left : List Asked) × Serves told o.asked.calls (asked_for o.asked.read) left × AskingEnds told (end_of_asking asking) o.asked.stop (asked_for o.asked.read) left
+      → (left : List Asked) × Serves told o.asked.calls (asked_for x.number o.asked.read) left × AskingEnds told (end_of_asking asking) o.asked.stop (asked_for x.number o.asked.read) left
   ends_by Open a = (demand x [], all_asked (a.1 []), a.0)
   ends_by Breaking a = (demand x [], all_asked (a.1 []), a.0)
   ends_by (Ended end) a = a
@@ -158,12 +157,12 @@ shut_over_same w w' false link s = ap (λ (x : WaitState). x.over) s
 
 -- ---- a session leaves the table, and its link is shut
 
-module _ (told : Option ℕ) (terms : Terms) (old : Around) (s : LoopState) (h : Holds told terms old s) (i : ℕ) (x : SessionState) (there : slice_get s.places i ≡ Some (Some x))
+module _ (told : Option ℕ) (terms : Terms) (old : Around) (t : Tending) (s : LoopState) (h : Holds told terms old t s) (i : ℕ) (x : SessionState) (there : slice_get s.places i ≡ Some (Some x))
     (w : WaitState) (b : Bool) (places : List (Option SessionState)) (goes : Bool) (shuts : ShutBy s.around.wait w b x.line)
     (less : (j : ℕ) → (z : SessionState) → slice_get places j ≡ Some (Some z) → (j ≡ i → ⊥) × (slice_get s.places j ≡ Some (Some z)))
     (fewer : (c : ℕ) → times_open c places + one_if (x.line.caller == c) ≡ times_open c s.places)
     (on : goes ≡ true → (s.goes_on ≡ true) × (b ≡ true) × (is_through (Served x.number (end_of_asking x.asking) (through_by x.taking x.out)) ≡ true)
-    × IsAmong (Removed x.number) h.steps) where
+    × IsAmong (Removed x.number) h.steps × EndsFence h.steps x.number) where
   leaves : IsOpen told h.steps h.owner i x
   leaves = h.open_are i x there
 
@@ -197,11 +196,13 @@ module _ (told : Option ℕ) (terms : Terms) (old : Around) (s : LoopState) (h :
   early_run : EndCause (MayEnd terms w.over) (end_of_asking x.asking) (through_by x.taking x.out)
   early_run = let c = h.early_open i x there in (λ e. may_still (c.0 e), λ e. may_still (c.1 (through_is x.taking x.out took.Late e)))
 
-  pub session_off : Holds told terms old (record s { around = record s.around { wait = w }; places = places; goes_on = goes })
+  pub session_off : Holds told terms old t (record s { around = record s.around { wait = w }; places = places; goes_on = goes })
   session_off = record {
     steps = h.steps;
     gains = h.gains;
     timely = h.timely;
+    tends = h.tends;
+    follow = h.follow;
     callers = h.callers;
     door_links = h.door_links;
     unused = h.unused;
@@ -225,7 +226,8 @@ module _ (told : Option ℕ) (terms : Terms) (old : Around) (s : LoopState) (h :
         let l = less j z is in
         cause_on (MayEnd terms s.around.wait.over) (MayEnd terms w.over) (end_of_asking z.asking) z.taking may_still (h.early_open j z l.1);
     through = λ is. let g = on is in through_push h.runs run (h.through g.0) g.2 g.1;
-    removed = λ is. let g = on is in removed_push h.steps h.runs run (h.removed g.0) g.3;
+    removed = λ is. let g = on is in removed_push h.steps h.runs run (h.removed g.0) (g.3, g.4);
+    fences = h.fences;
     addr = h.addr;
     door_ends = h.door_ends;
     over_cause = h.over_cause;
@@ -234,23 +236,23 @@ module _ (told : Option ℕ) (terms : Terms) (old : Around) (s : LoopState) (h :
   }
 
 pub shut_same : (told : Option ℕ) (terms : Terms) (k : Knows) (w : WaitState) (places : List (Option SessionState)) → KeepsShut told terms k k w w places places true
-shut_same told terms k w places = λ d joined starved is_over old h. h
+shut_same told terms k w places = λ d joined starved is_over old t h. h
 
 pub shut_more : (told : Option ℕ) (terms : Terms) (k1 k2 k3 : Knows) (w1 w2 w3 : WaitState) (a b c : List (Option SessionState)) (is_told : Bool)
     → KeepsShut told terms k1 k2 w1 w2 a b true → KeepsShut told terms k2 k3 w2 w3 b c is_told → KeepsShut told terms k1 k3 w1 w3 a c is_told
-shut_more told terms k1 k2 k3 w1 w2 w3 a b c is_told p q = λ d joined starved is_over old h. q d joined starved is_over old (p d joined starved is_over old h)
+shut_more told terms k1 k2 k3 w1 w2 w3 a b c is_told p q = λ d joined starved is_over old t h. q d joined starved is_over old t (p d joined starved is_over old t h)
 
 -- the session of a place was removed from the hall, and its link shut
 pub shut_place : (told : Option ℕ) (terms : Terms) (k k' : Knows) (w w' : WaitState) (places : List (Option SessionState)) (i : ℕ) (x : SessionState) (b : Bool)
     → slice_get places i ≡ Some (Some x) → IsOver x → RemovesSession told k k' x → ShutBy w w' b x.line
     → KeepsShut told terms k k' w w' places (slice_set places i None) b
-shut_place told terms k k' w w' places i x b there over st shuts = λ d joined starved is_over old h.
+shut_place told terms k k' w w' places i x b there over st shuts = λ d joined starved is_over old t h.
     let s = loop_state k d w places joined starved is_over true in
-    let on = session_with told terms old s h i x x k' there ⊥ (λ e. absurd e) st.0 (Removed x.number) st.1 in
+    let on = session_with told terms old t s h i x x k' there ⊥ (λ e. absurd e) st.0 (Removed x.number) st.1 in
     let mid = slice_set places i (Some x) in
     let at : slice_get mid i ≡ Some (Some x) = set_there places i (Some x) (Some x) there in
-    subst (λ (l : List (Option SessionState)). Holds told terms old (loop_state k' d w' l joined starved is_over b)) (set_again places i (Some x) None)
-    (session_off told terms old (loop_state k' d w mid joined starved is_over true) on.0 i x at w' b (slice_set mid i None) b shuts
+    subst (λ (l : List (Option SessionState)). Holds told terms old t (loop_state k' d w' l joined starved is_over b)) (set_again places i (Some x) None)
+    (session_off told terms old t (loop_state k' d w mid joined starved is_over true) on.0 i x at w' b (slice_set mid i None) b shuts
     (λ j z is. set_none mid i j z is)
     (λ c. let t = times_set c mid i (Some x) None at in omega (arith, t))
     (λ is. (
@@ -258,29 +260,56 @@ shut_place told terms k k' w w' places i x b there over st shuts = λ d joined s
       is,
       over_through x.number (end_of_asking x.asking) x.taking x.out over.0 over.1,
       on.1,
+      λ set. on.2 x.number (st.2 (fenced_at told terms old t (loop_state k' d w mid joined starved is_over true) on.0 i x at ∙ set)),
     )))
+  where
+    fenced_at : (told : Option ℕ) (terms : Terms) (old : Around) (t : Tending) (s : LoopState) (h : Holds told terms old t s) (i : ℕ) (x : SessionState)
+        → slice_get s.places i ≡ Some (Some x) → x.is_fenced ≡ has_set x.number (calls_of x.number h.steps)
+    fenced_at told terms old t s h i x at = let o = h.open_are i x at in o.fenced
+
+-- the same, where the removal brought the end of the loop
+shut_ended : (told : Option ℕ) (terms : Terms) (k mid : Knows) (w w' : WaitState) (places : List (Option SessionState)) (i : ℕ) (x : SessionState) (b : Bool)
+    → slice_get places i ≡ Some (Some x) → StepsOn told k mid x x → ShutBy w w' b x.line → KeepsShut told terms k mid w w' places (slice_set places i None) false
+shut_ended told terms k k' w w' places i x b there st shuts = λ d joined starved is_over old t h.
+    let s = loop_state k d w places joined starved is_over true in
+    let on = session_on told terms old t s h i x x k' there ⊥ (λ e. absurd e) st in
+    let mid = slice_set places i (Some x) in
+    let at : slice_get mid i ≡ Some (Some x) = set_there places i (Some x) (Some x) there in
+    subst (λ (l : List (Option SessionState)). Holds told terms old t (loop_state k' d w' l joined starved is_over false)) (set_again places i (Some x) None)
+    (session_off told terms old t (loop_state k' d w mid joined starved is_over true) on i x at w' b (slice_set mid i None) false shuts
+    (λ j z is. set_none mid i j z is)
+    (λ c. let t = times_set c mid i (Some x) None at in omega (arith, t))
+    (λ is. absurd (cc)))
+
+pub shut_to : (told : Option ℕ) (terms : Terms) (k k' : Knows) (w w' : WaitState) (places : List (Option SessionState)) (i : ℕ) (x : SessionState) (b : Bool)
+    (o : Option ServeEnd) → slice_get places i ≡ Some (Some x) → IsOver x → RemovesTo told k k' x o → ShutBy w w' b x.line
+    → KeepsShutTo told terms k k' w w' places (slice_set places i None) (end_behind o b)
+shut_to told terms k k' w w' places i x true None there over st shuts = shut_place told terms k k' w w' places i x true there over st shuts
+shut_to told terms k k' w w' places i x false None there over st shuts =
+    (k', shut_place told terms k k' w w' places i x false there over st shuts, inl (refl, refl))
+shut_to told terms k k' w w' places i x b (Some e) there over st shuts = (st.0, shut_ended told terms k st.0 w w' places i x b there st.1 shuts, inr st.2)
+
+pub shut_more_to : (told : Option ℕ) (terms : Terms) (k1 k2 k3 : Knows) (w1 w2 w3 : WaitState) (a b c : List (Option SessionState)) (o : Option ServeEnd)
+    → KeepsShut told terms k1 k2 w1 w2 a b true → KeepsShutTo told terms k2 k3 w2 w3 b c o → KeepsShutTo told terms k1 k3 w1 w3 a c o
+shut_more_to told terms k1 k2 k3 w1 w2 w3 a b c None p q = shut_more told terms k1 k2 k3 w1 w2 w3 a b c true p q
+shut_more_to told terms k1 k2 k3 w1 w2 w3 a b c (Some e) p q = (q.0, shut_more told terms k1 k2 q.0 w1 w2 w3 a b c false p q.1, q.2)
 
 -- the last session of the table leaves it as the loop ends
 pub shut_last : (told : Option ℕ) (terms : Terms) (k : Knows) (d : DoorState) (w w' : WaitState) (places : List (Option SessionState)) (x : SessionState) (b : Bool) (joined starved : ℕ)
     (is_over goes : Bool) → ShutBy w w' b x.line → Keeps told terms (loop_state k d w (places ++ Some x ∷ []) joined starved is_over goes) (loop_state k d w' places joined starved is_over false)
-shut_last told terms k d w w' places x b joined starved is_over goes shuts = λ old h.
-    session_off told terms old (loop_state k d w (places ++ Some x ∷ []) joined starved is_over goes) h (length places) x (at_last places (Some x)) w' b places false shuts
+shut_last told terms k d w w' places x b joined starved is_over goes shuts = λ old t h.
+    session_off told terms old t (loop_state k d w (places ++ Some x ∷ []) joined starved is_over goes) h (length places) x (at_last places (Some x)) w' b places false shuts
     (λ j z is. (λ e. let r = not_last places j z is in absurd (omega (arith, r, e)), less_last places (Some x) j z is))
     (λ c. let t = times_last c places (Some x) in omega (arith, t))
     (λ is. absurd (cc))
 
-pub steps_removed : (told : Option ℕ) (k k' : Knows) (x : SessionState) → Adds (event.Remove x.number) outcome.Done k k' → RemovesSession told k k' x
-steps_removed told k k' x adds = (
-  record {
-    steps = Removed x.number ∷ [];
-    own = (refl, tt);
-    gains = gains_one k k' (event.Remove x.number, outcome.Done) (made (event.Remove x.number) outcome.Done k k' adds);
-    timely = (tt, tt);
-    number = refl;
-    caller = refl;
-    asked = λ calls came a. subst (λ (l : List Call). AskedSoFar told l came x) (sym (append-nil calls)) a;
-    ends = (λ e. inl e, λ e. inl e);
-    written = λ takes came a. subst (λ (l : List Outcome). WrittenSoFar l came x) (sym (append-nil takes)) a;
-  },
-  ([], [], refl),
+-- sessions of the table went on before that
+pub table_then : (told : Option ℕ) (terms : Terms) (k1 k2 k3 : Knows) (w w' : WaitState) (a b c : List (Option SessionState)) (o : Option ServeEnd)
+    → KeepsTable told terms k1 k2 a b → KeepsShutTo told terms k2 k3 w w' b c o → KeepsShutTo told terms k1 k3 w w' a c o
+table_then told terms k1 k2 k3 w w' a b c None p q = λ d joined starved is_over old t h.
+    q d joined starved is_over old t (p d w joined starved is_over true old t h)
+table_then told terms k1 k2 k3 w w' a b c (Some e) p q = (
+  q.0,
+  λ d joined starved is_over old t h. q.1 d joined starved is_over old t (p d w joined starved is_over true old t h),
+  q.2,
 )

@@ -1,6 +1,8 @@
 -- The steps of one session, and what they add to its records.
 use Rattle.std.proofs.Common.{◌≡◌, ◌⊎◌, ◌<◌, ◌==◌, ℕ, zero, suc, Bool, true, false, List, [], ◌∷◌, ◌++◌, refl, sym, ap, ◌∙◌, subst, inl, inr, arith, append_assoc}
-use Rattle.std.specs.Prelude.{Option, Some, None, Result, Ok, Err, length, take, drop, if◌then◌else◌}
+use Rattle.std.specs.Prelude.{Option, Some, None, Result, Ok, Err, ◌||◌, length, take, drop, if◌then◌else◌}
+use Rattle.std.specs.List.{list_any}
+use Rattle.std.proofs.Math.Bool.{or-false}
 use Rattle.std.proofs.lemmas.List.{append-nil}
 use Rattle.std.proofs.lemmas.Grind.{flat_map-append}
 use Rattle.std.proofs.lemmas.Bool.Decides.{nat_tests}
@@ -28,17 +30,20 @@ use Rattle.session_run.specs.Filling.{IsFilled}
 use Rattle.session_run.specs.declared.phases.Asking.TheVariants.{Open, Breaking, Ended}
 use Rattle.session_run.specs.declared.phases.Asking.{Asking}
 use Rattle.session_run.specs.Sessions.{SessionState, demand, owed, WantsToRead, WantsTurn, WantsTake, CanDismiss, end_of_asking}
+use Rattle.session_run.specs.Live.{sets_channel, has_set}
+use Rattle.session_run.specs.FencedSteps.{set_turn}
 use Rattle.session_run.specs.Outs.{bytes_given}
 use Rattle.session_run.specs.declared.phases.TakeEnd.{TakeEnd}
 use Rattle.session_run.specs.declared.phases.TakeEnd.TheVariants as took
 use Rattle.session_run.specs.SoFar.{AskedSoFar, WrittenSoFar, Owes}
 use Rattle.session_run.specs.Steps.{got_bytes, UnlessMemory, Readies, AsksOn, Answered, Takes, WritesOut, Dismisses, Cuts, taking_behind}
 use Rattle.session_run.specs.Turns.{turn_calls}
-use Rattle.session_run.specs.AskedSteps.{asked_read, asked_answered, asked_taken, asked_written, asked_dismissed, asked_cut}
+use Rattle.session_run.specs.AskedSteps.{asked_read, asked_answered, asked_taken, asked_written, asked_dismissed, asked_cut, asked_fenced}
 use Rattle.session_run.specs.WrittenSteps.{written_read, written_answered, written_taken, written_sent, written_dismissed, written_cut}
 use Rattle.serve_run.specs.Tends.{IsTold}
-use Rattle.serve_run.specs.Steps.{Step, Called, Took, Closed, step_acts, steps_acts, calls_in, calls_of, takes_in, takes_of, AreTimely}
+use Rattle.serve_run.specs.Steps.{Step, Called, Took, Closed, step_acts, steps_acts, calls_in, calls_of, takes_in, takes_of, ends_fence, AreTimely}
 use Rattle.serve_run.specs.SessionSteps.{AreOf, EndsBy, StepsSession, StepsOn, EndsEarly}
+use Rattle.serve_run.proofs.Fencing.{either_true, first_true, ends_more, fence_more}
 
 pub same_test : (n : ℕ) → (n == n) ≡ true
 same_test n = grind (arith, nat_tests)
@@ -69,6 +74,21 @@ further : {P Q early : Type 0} → P ⊎ early → (P → Q ⊎ early) → Q ⊎
 further (inl p) f = f p
 further (inr e) f = inr e
 
+module _ (told : Option ℕ) (early : Type 0) (k1 k2 k3 : Knows) (s t u : SessionState) (a : StepsSession told early k1 k2 s t)
+    (b : StepsSession told early k2 k3 t u) where
+  ends_both : (n : ℕ) → ends_fence n (a.steps ++ b.steps) ≡ true → (n ≡ s.number) × (u.is_fenced ≡ true)
+  ends_both n is = by (either_true (ends_fence n a.steps) (ends_fence n b.steps) (sym (ends_more n a.steps b.steps) ∙ is))
+    where
+      by : ((ends_fence n a.steps ≡ true) ⊎ (ends_fence n b.steps ≡ true)) → (n ≡ s.number) × (u.is_fenced ≡ true)
+      by (inl e) =
+          let r = a.fence_ends n e in
+          (r.0, b.fenced ∙ first_true t.is_fenced (has_set t.number (calls_of t.number b.steps)) r.1)
+      by (inr e) = let r = b.fence_ends n e in (r.0 ∙ a.number, r.1)
+
+  fenced_both : u.is_fenced ≡ (s.is_fenced || has_set s.number (calls_of s.number (a.steps ++ b.steps)))
+  fenced_both = fence_more s.number s.is_fenced t.is_fenced u.is_fenced a.steps b.steps a.fenced
+      (subst (λ (n : ℕ). u.is_fenced ≡ (t.is_fenced || has_set n (calls_of n b.steps))) a.number b.fenced)
+
 pub steps_more : (told : Option ℕ) (early : Type 0) (k1 k2 k3 : Knows) (s t u : SessionState) → StepsSession told early k1 k2 s t
     → StepsSession told early k2 k3 t u → StepsSession told early k1 k3 s u
 steps_more told early k1 k2 k3 s t u a b = record {
@@ -83,6 +103,8 @@ steps_more told early k1 k2 k3 s t u a b = record {
       (subst (λ (n : ℕ). AskedSoFar told ((calls ++ calls_of s.number a.steps) ++ calls_of n b.steps) came u) a.number
       (b.asked (calls ++ calls_of s.number a.steps) came (a.asked calls came x)));
   ends = (λ e. further (b.ends.0 e) a.ends.0, λ e. further (b.ends.1 e) a.ends.1);
+  fenced = fenced_both told early k1 k2 k3 s t u a b;
+  fence_ends = ends_both told early k1 k2 k3 s t u a b;
   written = λ takes came x. subst (λ (l : List Outcome). WrittenSoFar l came u)
       (append_assoc takes (takes_of s.number a.steps) (takes_of s.number b.steps) ∙ ap (λ (l : List Outcome). takes ++ l) (sym (takes_more s.number a.steps b.steps)))
       (subst (λ (n : ℕ). WrittenSoFar ((takes ++ takes_of s.number a.steps) ++ takes_of n b.steps) came u) a.number
@@ -100,14 +122,14 @@ ends_same early s t asking taking = (λ e. inl (sym (ap end_of_asking asking) �
 ends_as : (s t : SessionState) (end : InEnd) → t.asking ≡ Ended end → (end ≡ ended.Dismissed → ⊥) → t.taking ≡ s.taking → EndsBy ⊥ s t
 ends_as s t end is other same = (λ e. absurd (other (some_end end ended.Dismissed (sym (ap end_of_asking is) ∙ e))), λ e. inl (sym same ∙ e))
 
-filled_goes : (s t : SessionState) (bytes : Bytes) (asking : Asking) → IsFilled s.held bytes t.held t.rest t.asked asking
+filled_goes : (s t : SessionState) (bytes : Bytes) (asking : Asking) → IsFilled s.number s.held bytes t.held t.rest t.asked asking
     → end_of_asking asking ≡ Some ended.Dismissed → ⊥
 filled_goes s t bytes Open f e = cc
 filled_goes s t bytes Breaking f e = cc
 filled_goes s t bytes (Ended ended.Memory) f e = cc
 filled_goes s t bytes (Ended end) f e = f
 
-ends_filled : (s t : SessionState) (bytes : Bytes) → IsFilled s.held bytes t.held t.rest t.asked t.asking → t.taking ≡ s.taking → EndsBy ⊥ s t
+ends_filled : (s t : SessionState) (bytes : Bytes) → IsFilled s.number s.held bytes t.held t.rest t.asked t.asking → t.taking ≡ s.taking → EndsBy ⊥ s t
 ends_filled s t bytes f same = (λ e. absurd (filled_goes s t bytes t.asking f e), λ e. inl (sym same ∙ e))
 
 read_ends : {E : Type 0} (s t : SessionState) (r : Result Got E) (into : Bytes) → Readies s t r into → EndsBy ⊥ s t
@@ -176,10 +198,10 @@ answer_ends s t asked served called.Memory is = stop_ends s t asked served calle
 
 -- ---- steps that ask nothing of the hall
 
-quiet : (told : Option ℕ) (early : Type 0) (k : Knows) (s t : SessionState) → EndsBy early s t → t.number ≡ s.number → t.line.caller ≡ s.line.caller
+quiet : (told : Option ℕ) (early : Type 0) (k : Knows) (s t : SessionState) → EndsBy early s t → t.is_fenced ≡ s.is_fenced → t.number ≡ s.number → t.line.caller ≡ s.line.caller
     → ((calls : List Call) → (came : LinkState) → AskedSoFar told calls came s → AskedSoFar told calls came t)
     → ((takes : List Outcome) → (came : LinkState) → WrittenSoFar takes came s → WrittenSoFar takes came t) → StepsSession told early k k s t
-quiet told early k s t ends number caller asked written = record {
+quiet told early k s t ends fenced number caller asked written = record {
   steps = [];
   own = tt;
   gains = refl;
@@ -188,17 +210,25 @@ quiet told early k s t ends number caller asked written = record {
   caller = caller;
   asked = λ calls came x. subst (λ (l : List Call). AskedSoFar told l came t) (sym (append-nil calls)) (asked calls came x);
   ends = ends;
+  fenced = fenced ∙ sym (or-false s.is_fenced);
+  fence_ends = λ n e. absurd (cc);
   written = λ takes came x. subst (λ (l : List Outcome). WrittenSoFar l came t) (sym (append-nil takes)) (written takes came x);
 }
 
 pub steps_none : (told : Option ℕ) (early : Type 0) (k : Knows) (s : SessionState) → StepsSession told early k k s s
-steps_none told early k s = quiet told early k s s (ends_same early s s refl refl) refl refl (λ calls came x. x) (λ takes came x. x)
+steps_none told early k s = quiet told early k s s (ends_same early s s refl refl) refl refl refl (λ calls came x. x) (λ takes came x. x)
 
 read_number : {E : Type 0} (s t : SessionState) (r : Result Got E) (into : Bytes) → Readies s t r into → t.number ≡ s.number
 read_number s t (Ok (got.Bytes n)) into is = ap (λ (x : SessionState). x.number) is.1
 read_number s t (Ok got.End) into is = ap (λ (x : SessionState). x.number) is.0
 read_number s t (Ok got.Later) into is = ap (λ (x : SessionState). x.number) is
 read_number s t (Err e) into is = ap (λ (x : SessionState). x.number) is.0
+
+read_fenced : {E : Type 0} (s t : SessionState) (r : Result Got E) (into : Bytes) → Readies s t r into → t.is_fenced ≡ s.is_fenced
+read_fenced s t (Ok (got.Bytes n)) into is = ap (λ (x : SessionState). x.is_fenced) is.1
+read_fenced s t (Ok got.End) into is = ap (λ (x : SessionState). x.is_fenced) is.0
+read_fenced s t (Ok got.Later) into is = ap (λ (x : SessionState). x.is_fenced) is
+read_fenced s t (Err e) into is = ap (λ (x : SessionState). x.is_fenced) is.0
 
 read_caller : {E : Type 0} (s t : LinkState) (r : Result Got E) (into : Bytes) → Reads s t r into → t.caller ≡ s.caller
 read_caller s t (Ok (got.Bytes n)) into is = ap (λ (x : LinkState). x.caller) is.1
@@ -208,13 +238,18 @@ read_caller s t (Err e) into is = ap (λ (x : LinkState). x.caller) is.same
 
 pub steps_read : {E : Type 0} (told : Option ℕ) (k : Knows) (s t : SessionState) (r : Result Got E) (into : Bytes) → WantsToRead s → Reads s.line t.line r into
     → Readies s t r into → UnlessMemory t.asking ((more : Bytes) → demand s (got_bytes r into ++ more) ≡ demand t more) → StepsOn told k k s t
-steps_read told k s t r into wants reads readies goes = quiet told ⊥ k s t (read_ends s t r into readies) (read_number s t r into readies) (read_caller s.line t.line r into reads)
+steps_read told k s t r into wants reads readies goes = quiet told ⊥ k s t (read_ends s t r into readies) (read_fenced s t r into readies) (read_number s t r into readies) (read_caller s.line t.line r into reads)
     (λ calls came x. asked_read told calls came s t into wants x r reads readies goes) (λ takes came x. written_read takes came s x t r into reads readies)
 
 write_number : {E : Type 0} (s t : SessionState) (r : Result Sent E) → WritesOut s t r → t.number ≡ s.number
 write_number s t (Ok (sent.Bytes n)) is = ap (λ (x : SessionState). x.number) is
 write_number s t (Ok sent.Later) is = ap (λ (x : SessionState). x.number) is
 write_number s t (Err e) is = ap (λ (x : SessionState). x.number) is
+
+write_fenced : {E : Type 0} (s t : SessionState) (r : Result Sent E) → WritesOut s t r → t.is_fenced ≡ s.is_fenced
+write_fenced s t (Ok (sent.Bytes n)) is = ap (λ (x : SessionState). x.is_fenced) is
+write_fenced s t (Ok sent.Later) is = ap (λ (x : SessionState). x.is_fenced) is
+write_fenced s t (Err e) is = ap (λ (x : SessionState). x.is_fenced) is
 
 write_caller : {E : Type 0} (s t : LinkState) (r : Result Sent E) (piece : Bytes) → Writes s t r piece → t.caller ≡ s.caller
 write_caller s t (Ok (sent.Bytes n)) piece is = ap (λ (x : LinkState). x.caller) is.1
@@ -223,20 +258,20 @@ write_caller s t (Err e) piece is = ap (λ (x : LinkState). x.caller) is.same
 
 pub steps_written : {E : Type 0} (told : Option ℕ) (k : Knows) (s t : SessionState) (r : Result Sent E) → Writes s.line t.line r s.out → WritesOut s t r
     → Keeps (owed s) (owed t) → StepsOn told k k s t
-steps_written told k s t r writes out keeps = quiet told ⊥ k s t (write_ends s t r out) (write_number s t r out) (write_caller s.line t.line r s.out writes)
+steps_written told k s t r writes out keeps = quiet told ⊥ k s t (write_ends s t r out) (write_fenced s t r out) (write_number s t r out) (write_caller s.line t.line r s.out writes)
     (λ calls came x. asked_written told calls came s t x r writes out) (λ takes came x. written_sent takes came s x t r writes out keeps)
 
 -- ---- an end by the server
 
 pub steps_dismissed : (told : Option ℕ) (k : Knows) (s t : SessionState) → CanDismiss s → Dismisses s t → EndsEarly told k s t
 steps_dismissed told k s t can is = quiet told (Unit {0}) k s t (λ e. inr tt, λ e. inl (sym (ap (λ (x : SessionState). x.taking) is.0) ∙ e))
-    (ap (λ (x : SessionState). x.number) is.0) (ap (λ (x : SessionState). x.line.caller) is.0)
+    (ap (λ (x : SessionState). x.is_fenced) is.0) (ap (λ (x : SessionState). x.number) is.0) (ap (λ (x : SessionState). x.line.caller) is.0)
     (λ calls came x. asked_dismissed told calls came s t can x is) (λ takes came x. written_dismissed takes came s x t is)
 
 pub steps_cut : (told : Option ℕ) (k : Knows) (s t : SessionState) → s.taking ≡ None → Cuts s t → EndsEarly told k s t
 steps_cut told k s t none is = quiet told (Unit {0}) k s t
     (λ e. inl (sym (ap (λ (x : SessionState). end_of_asking x.asking) is) ∙ e), λ e. inr tt)
-    (ap (λ (x : SessionState). x.number) is) (ap (λ (x : SessionState). x.line.caller) is)
+    (ap (λ (x : SessionState). x.is_fenced) is) (ap (λ (x : SessionState). x.number) is) (ap (λ (x : SessionState). x.line.caller) is)
     (λ calls came x. asked_cut told calls came s t x is) (λ takes came x. written_cut takes came s x t none is)
 
 -- ---- a take, and a close
@@ -248,6 +283,11 @@ take_number : (s t : SessionState) (o : Outcome) → Takes s t o → t.number �
 take_number s t (outcome.Given frames) (inl is) = ap (λ (x : SessionState). x.number) is
 take_number s t (outcome.Given frames) (inr is) = ap (λ (x : SessionState). x.number) is
 take_number s t o is = ap (λ (x : SessionState). x.number) is
+
+take_fenced : (s t : SessionState) (o : Outcome) → Takes s t o → t.is_fenced ≡ s.is_fenced
+take_fenced s t (outcome.Given frames) (inl is) = ap (λ (x : SessionState). x.is_fenced) is
+take_fenced s t (outcome.Given frames) (inr is) = ap (λ (x : SessionState). x.is_fenced) is
+take_fenced s t o is = ap (λ (x : SessionState). x.is_fenced) is
 
 take_caller : (s t : SessionState) (o : Outcome) → Takes s t o → t.line.caller ≡ s.line.caller
 take_caller s t (outcome.Given frames) (inl is) = ap (λ (x : SessionState). x.line.caller) is
@@ -265,6 +305,8 @@ steps_taken told k k' s t o wants adds takes = record {
   caller = take_caller s t o takes;
   asked = λ calls came x. subst (λ (l : List Call). AskedSoFar told l came t) (sym (append-nil calls)) (asked_taken told calls came s t x o takes);
   ends = take_ends s t o takes;
+  fenced = take_fenced s t o takes ∙ sym (or-false s.is_fenced);
+  fence_ends = λ n e. absurd (cc);
   written = λ before came x. subst (λ (l : List Outcome). WrittenSoFar (before ++ l) came t) (sym (taken_at s.number o)) (written_taken before came s x t o wants takes);
 }
 
@@ -278,6 +320,8 @@ steps_closed told k k' s adds = record {
   caller = refl;
   asked = λ calls came x. subst (λ (l : List Call). AskedSoFar told l came s) (sym (append-nil calls)) x;
   ends = ends_same ⊥ s s refl refl;
+  fenced = sym (or-false s.is_fenced);
+  fence_ends = λ n e. absurd (cc);
   written = λ takes came x. subst (λ (l : List Outcome). WrittenSoFar l came s) (sym (append-nil takes)) x;
 }
 
@@ -308,21 +352,23 @@ answered_same s t asked served called.Ok is = ended_on s.asking s t is
 answered_same s t asked served called.Full is = (ap (λ (x : SessionState). x.number) is, ap (λ (x : SessionState). x.line.caller) is)
 answered_same s t asked served end is = (ap (λ (x : SessionState). x.number) is.2, ap (λ (x : SessionState). x.line.caller) is.2)
 
-owes_bare : (t : Option TakeEnd) (held : Option Bytes) (s : SessionState) (given : Bytes) → Owes t held s given → Owes t held (record s { asked = [] }) given
-owes_bare None held s given o = o
-owes_bare (Some took.WriteFault) held s given o = o
-owes_bare (Some took.Memory) held s given o = o
-owes_bare (Some took.Late) held s given o = o
-owes_bare (Some end) held s given o = o
+owes_bare : (t : Option TakeEnd) (held : Option Bytes) (s : SessionState) (b : Bool) (given : Bytes) → Owes t held s given
+    → Owes t held (record s { asked = []; is_fenced = b }) given
+owes_bare None held s b given o = o
+owes_bare (Some took.WriteFault) held s b given o = o
+owes_bare (Some took.Memory) held s b given o = o
+owes_bare (Some took.Late) held s b given o = o
+owes_bare (Some end) held s b given o = o
 
 -- the requests in hand, of a session from which they were moved out
 steps_answered : (told : Option ℕ) (m : ℕ) → IsTold told m → (k k' : Knows) (s t : SessionState) (served : ℕ) (end : CallOutcome) (named : List ℕ)
     → WantsTurn s → IsCount served end (length s.asked) → AddsNamed (call_acts s.number m s.asked served end) named k k'
-    → Answered (record s { asked = [] }) t s.asked served end
+    → Answered (record s { asked = []; is_fenced = t.is_fenced }) t s.asked served end
+    → t.is_fenced ≡ (s.is_fenced || list_any (sets_channel s.number) (take served s.asked))
     → UnlessMemory t.asking ((more : Bytes) → demand s more ≡ take served s.asked ++ demand t more)
     → StepsOn told k k' s t
-steps_answered told m timely k k' s t served end named wants count adds answered goes =
-    let same = answered_same (record s { asked = [] }) t s.asked served end answered in
+steps_answered told m timely k k' s t served end named wants count adds answered fenced goes =
+    let same = answered_same (record s { asked = []; is_fenced = t.is_fenced }) t s.asked served end answered in
     record {
       steps = Called s.number m s.asked served end ∷ [];
       own = (refl, tt);
@@ -332,26 +378,35 @@ steps_answered told m timely k k' s t served end named wants count adds answered
       number = same.0;
       caller = same.1;
       asked = λ calls came x. subst (λ (l : List Call). AskedSoFar told (calls ++ l) came t) (sym (called_at s.number m served end s.asked))
-          (asked_answered told calls came (record s { asked = [] }) t s.asked served m timely wants.0 x end count refl answered goes);
-      ends = answer_ends (record s { asked = [] }) t s.asked served end answered;
+          (asked_answered told calls came (record s { asked = []; is_fenced = t.is_fenced }) t s.asked served m timely wants.0
+          (asked_fenced told calls came s t.is_fenced x) end count refl answered goes);
+      ends = answer_ends (record s { asked = []; is_fenced = t.is_fenced }) t s.asked served end answered;
+      fenced = fenced ∙ ap (λ (b : Bool). s.is_fenced || b)
+          (sym (ap (has_set s.number) (called_at s.number m served end s.asked) ∙ set_turn s.number m served end s.asked));
+      fence_ends = λ n e. absurd (cc);
       written = λ takes came x. subst (λ (l : List Outcome). WrittenSoFar l came t) (sym (append-nil takes))
-          (written_answered takes came (record s { asked = [] }) (written_bare takes came s x) t s.asked served end answered);
+          (written_answered takes came (record s { asked = []; is_fenced = t.is_fenced }) (written_bare takes came s t.is_fenced x) t s.asked served end answered);
     }
   where
-    written_bare : (takes : List Outcome) (came : LinkState) (s : SessionState) → WrittenSoFar takes came s → WrittenSoFar takes came (record s { asked = [] })
-    written_bare takes came s x = record { owes = owes_bare s.taking came.held s (bytes_given takes) x.owes; last = x.last; cause = x.cause; later = x.later }
+    written_bare : (takes : List Outcome) (came : LinkState) (s : SessionState) (b : Bool) → WrittenSoFar takes came s
+        → WrittenSoFar takes came (record s { asked = []; is_fenced = b })
+    written_bare takes came s b x = record { owes = owes_bare s.taking came.held s b (bytes_given s.number takes) x.owes; last = x.last; cause = x.cause; later = x.later }
 
 pub steps_asked : (told : Option ℕ) (m : ℕ) → IsTold told m → (k k' : Knows) (s mid t : SessionState) (moved asked : List Asked) (served : ℕ) (end : CallOutcome)
     (named : List ℕ) → WantsTurn s → moved ≡ s.asked → mid ≡ record s { asked = [] } → asked ≡ moved → IsCount served end (length moved)
-    → AddsNamed (call_acts mid.number m moved served end) named k k' → Answered mid t asked served end
+    → AddsNamed (call_acts mid.number m moved served end) named k k' → Answered (record mid { is_fenced = t.is_fenced }) t asked served end
+    → t.is_fenced ≡ (mid.is_fenced || list_any (sets_channel mid.number) (take served asked))
     → UnlessMemory t.asking ((more : Bytes) → demand (record mid { asked = asked }) more ≡ take served asked ++ demand t more)
     → StepsOn told k k' s t
-steps_asked told m timely k k' s mid t moved asked served end named wants is bare back count adds answered goes =
+steps_asked told m timely k k' s mid t moved asked served end named wants is bare back count adds answered fenced goes =
     let all : asked ≡ s.asked = back ∙ is in
     steps_answered told m timely k k' s t served end named wants
     (subst (λ (l : List Asked). IsCount served end (length l)) is count)
     (subst (λ (x : SessionState). AddsNamed (call_acts x.number m s.asked served end) named k k') bare
     (subst (λ (l : List Asked). AddsNamed (call_acts mid.number m l served end) named k k') is adds))
-    (subst (λ (x : SessionState). Answered x t s.asked served end) bare (subst (λ (l : List Asked). Answered mid t l served end) all answered))
+    (subst (λ (x : SessionState). Answered (record x { is_fenced = t.is_fenced }) t s.asked served end) bare
+    (subst (λ (l : List Asked). Answered (record mid { is_fenced = t.is_fenced }) t l served end) all answered))
+    (subst (λ (x : SessionState). t.is_fenced ≡ (x.is_fenced || list_any (sets_channel x.number) (take served s.asked))) bare
+    (subst (λ (l : List Asked). t.is_fenced ≡ (mid.is_fenced || list_any (sets_channel mid.number) (take served l))) all fenced))
     (subst (λ (x : SessionState). UnlessMemory t.asking ((more : Bytes) → demand (record x { asked = s.asked }) more ≡ take served s.asked ++ demand t more)) bare
     (subst (λ (l : List Asked). UnlessMemory t.asking ((more : Bytes) → demand (record mid { asked = l }) more ≡ take served l ++ demand t more)) all goes))

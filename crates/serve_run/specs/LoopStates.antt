@@ -1,5 +1,5 @@
 -- What a loop keeps from step to step.
-use Rattle.std.specs.Prelude.{◌≡◌, ◌==◌, ◌≤◌, ◌+◌, ℕ, Bool, true, List, [], ◌∷◌, ◌++◌, Option, Some, None, option_map, min}
+use Rattle.std.specs.Prelude.{◌≡◌, ◌⊎◌, ◌==◌, ◌≤◌, ◌+◌, ℕ, Bool, true, false, List, [], ◌∷◌, ◌++◌, Option, Some, None, option_map, min}
 use Rattle.std.specs.List.{slice_get}
 use Rattle.outside.specs.Causes.{Rose, most_count}
 use Rattle.world_model.specs.declared.events.Outcome.TheVariants as outcome
@@ -8,12 +8,19 @@ use Rattle.outside.specs.Links.{LinkState, IsNew}
 use Rattle.outside.specs.Doors.{DoorState}
 use Rattle.outside.specs.Waits.{WaitState}
 use Rattle.session_run.specs.Gains.{Gains}
+use Rattle.session_run.specs.Live.{has_set}
 use Rattle.session_run.specs.Sessions.{SessionState, end_of_asking}
 use Rattle.session_run.specs.SoFar.{AskedSoFar, WrittenSoFar}
 use Rattle.serve_run.specs.declared.terms.Terms.{Terms}
+use Rattle.serve_run.specs.declared.tends.ServeEnd.{ServeEnd}
+use Rattle.serve_run.specs.declared.tends.ServeEnd.TheVariants as end
+use Rattle.serve_run.specs.declared.tendings.Tending.{Tending}
+use Rattle.serve_run.specs.Tends.{UnfencesLast}
+use Rattle.serve_run.specs.Follows.{tending_from, AllFollow}
 use Rattle.serve_run.specs.Loops.{Around, around}
+use Rattle.serve_run.specs.Pacing.{untended}
 use Rattle.serve_run.specs.Steps.{Step, Joined, steps_acts, calls_of, takes_of, callers_of, numbered, behind_callers, AreTimely, IsAmong}
-use Rattle.serve_run.specs.Runs.{LinkRun, LinkFate, AreRuns, AreThrough, AreRemoved, WatchFaults, MayEnd, EndCause}
+use Rattle.serve_run.specs.Runs.{LinkRun, LinkFate, AreRuns, AreThrough, AreRemoved, FencesEnd, WatchFaults, MayEnd, EndCause}
 use Rattle.serve_run.specs.Runs.{FateCauses, one_if, times, times_shut, told_links, starved_of}
 use Rattle.serve_run.specs.Runs.{TurnedOut, Starved, Unwatched, Served}
 
@@ -46,6 +53,7 @@ pub record IsOpen (told : Option ℕ) (steps : List Step) (owner : ℕ → Optio
   pub joined : IsAmong (Joined came.caller (outcome.Entered s.number)) steps
   pub asked : AskedSoFar told (calls_of s.number steps) came s
   pub written : WrittenSoFar (takes_of s.number steps) came s
+  pub fenced : s.is_fenced ≡ has_set s.number (calls_of s.number steps)
   pub owned : owner s.number ≡ Some place
 
 -- no open session has the number of one that is gone
@@ -72,11 +80,13 @@ times_open c (place ∷ places) = time_at c place + times_open c places
 abbrev pub NeverJoined : ℕ → List Step → Type 0
 NeverJoined n steps = (caller : ℕ) → IsAmong (Joined caller (outcome.Entered n)) steps → ⊥
 
--- what the loop keeps, from where it began on
-pub record Holds (told : Option ℕ) (terms : Terms) (old : Around) (s : LoopState) : Type 0 where
+-- what the loop keeps, from where it began on; and this is what its tends told so far
+pub record Holds (told : Option ℕ) (terms : Terms) (old : Around) (t : Tending) (s : LoopState) : Type 0 where
   pub steps : List Step
   pub gains : Gains old.knows s.around.knows (steps_acts steps)
   pub timely : AreTimely told steps
+  pub tends : tending_from untended steps ≡ t
+  pub follow : AllFollow terms untended steps
   pub callers : callers_of steps ≡ numbered old.door.links s.joined
   pub door_links : s.around.door.links ≡ behind_callers old.door.links s.joined
   pub unused : (n : ℕ) → NeverJoined n steps → (calls_of n steps ≡ []) × (takes_of n steps ≡ [])
@@ -94,6 +104,7 @@ pub record Holds (told : Option ℕ) (terms : Terms) (old : Around) (s : LoopSta
       → EndCause (MayEnd terms s.around.wait.over) (end_of_asking x.asking) x.taking
   pub through : s.goes_on ≡ true → AreThrough runs
   pub removed : s.goes_on ≡ true → AreRemoved steps runs
+  pub fences : FencesEnd steps
   pub addr : s.around.door.addr ≡ old.door.addr
   pub door_ends : min old.door.ends most_count ≤ s.around.door.ends
   pub over_cause : s.is_over ≡ true → Rose old.door.ends s.around.door.ends
@@ -102,7 +113,7 @@ pub record Holds (told : Option ℕ) (terms : Terms) (old : Around) (s : LoopSta
 
 -- whatever the loop began with: what it kept, it keeps
 abbrev pub Keeps : Option ℕ → Terms → LoopState → LoopState → Type 0
-Keeps told terms s t = (old : Around) → Holds told terms old s → Holds told terms old t
+Keeps told terms s s' = (old : Around) → (t : Tending) → Holds told terms old t s → Holds told terms old t s'
 
 -- sessions of the table went on, and all else is as it was
 abbrev pub KeepsTable : Option ℕ → Terms → Knows → Knows → List (Option SessionState) → List (Option SessionState) → Type 0
@@ -113,6 +124,13 @@ KeepsTable told terms k k' places places' = (d : DoorState) → (w : WaitState) 
 abbrev pub KeepsShut : Option ℕ → Terms → Knows → Knows → WaitState → WaitState → List (Option SessionState) → List (Option SessionState) → Bool → Type 0
 KeepsShut told terms k k' w w' places places' is_told = (d : DoorState) → (joined starved : ℕ) → (is_over : Bool)
     → Keeps told terms (loop_state k d w places joined starved is_over true) (loop_state k' d w' places' joined starved is_over is_told)
+
+-- the same, up to an end: a link could not be told, or what a session of the server's own asked behind the removal of one was answered so
+abbrev pub KeepsShutTo : Option ℕ → Terms → Knows → Knows → WaitState → WaitState → List (Option SessionState) → List (Option SessionState)
+    → Option ServeEnd → Type 0
+KeepsShutTo told terms k k' w w' places places' None = KeepsShut told terms k k' w w' places places' true
+KeepsShutTo told terms k k' w w' places places' (Some e) = (mid : Knows) × KeepsShut told terms k mid w w' places places' false
+    × (((mid ≡ k') × (e ≡ end.Memory)) ⊎ UnfencesLast told mid k' e)
 
 -- the server ended sessions of the table by itself, and all else is as it was
 abbrev pub KeepsEarly : Option ℕ → Terms → Knows → WaitState → List (Option SessionState) → List (Option SessionState) → Type 0

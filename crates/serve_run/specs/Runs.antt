@@ -10,6 +10,7 @@ use Rattle.world_model.specs.declared.events.Outcome.TheVariants as outcome
 use Rattle.outside.specs.Links.{LinkState, IsNew}
 use Rattle.session_run.specs.Calls.{Call, Serves}
 use Rattle.session_run.specs.Ends.{EndsAt}
+use Rattle.session_run.specs.Live.{has_set}
 use Rattle.session_run.specs.Outs.{bytes_given}
 use Rattle.session_run.specs.declared.ends.InEnd.{InEnd}
 use Rattle.session_run.specs.declared.ends.InEnd.TheVariants as ended
@@ -17,7 +18,7 @@ use Rattle.session_run.specs.declared.phases.TakeEnd.{TakeEnd}
 use Rattle.session_run.specs.declared.phases.TakeEnd.TheVariants as took
 use Rattle.session_run.specs.SoFar.{asked_for}
 use Rattle.serve_run.specs.declared.terms.Terms.{Terms}
-use Rattle.serve_run.specs.Steps.{Step, Joined, Removed, calls_of, takes_of, IsAmong}
+use Rattle.serve_run.specs.Steps.{Step, Joined, Removed, calls_of, takes_of, ends_fence, IsAmong}
 
 -- What became of a link. No session was entered, and the Enter was answered so; or the session of this number was entered, and removed at
 -- once: for want of memory, or because the link could not be watched; or it was served: how its asking ended, if it did, and how its
@@ -47,7 +48,7 @@ abbrev pub AskingEnds : Option ℕ → Option InEnd → List Call → List Asked
 AskingEnds told None stop asks left = stop ≡ []
 AskingEnds told (Some end) stop asks left = EndsAt told end stop asks left
 
--- all that the takes gave was written; or a first part of it, where the link failed or was cut, memory ran out or the loop ended before
+-- all that is shown of what the takes gave was written; or a first part of it, where the link failed or was cut, memory ran out or the loop ended before
 abbrev pub Wrote : Option TakeEnd → Option Bytes → Option Bytes → Bytes → Type 0
 Wrote None held held' given = AppendsPart held held' given
 Wrote (Some took.WriteFault) held held' given = AppendsPart held held' given
@@ -55,8 +56,9 @@ Wrote (Some took.Memory) held held' given = AppendsPart held held' given
 Wrote (Some took.Late) held held' given = AppendsPart held held' given
 Wrote (Some end) held held' given = Appends held held' given
 
--- A link was served as the session of a number. Its calls are those of what the bytes that were read of it ask, in order, each once but
--- again while it is answered Full, up to an end; what it was written is what its takes gave, in order, or a first part of that.
+-- A link was served as the session of a number. Its calls are those of what is asked of the bytes that were read of it, in order, each once but
+-- again while it is answered Full, up to an end: a live search is asked as the two requests that it becomes. What it was written is what it is
+-- shown of what its takes gave, in order, or a first part of that.
 pub record IsServed (told : Option ℕ) (steps : List Step) (came went : LinkState) (n : ℕ) (asking : Option InEnd)
     (taking : Option TakeEnd) : Type 0 where
   pub read : Bytes
@@ -65,11 +67,11 @@ pub record IsServed (told : Option ℕ) (steps : List Step) (came went : LinkSta
   pub stop : List Call
   pub made : calls_of n steps ≡ calls ++ stop
   pub left : List Asked
-  pub serves : Serves told calls (asked_for read) left
-  pub asking_ends : AskingEnds told asking stop (asked_for read) left
+  pub serves : Serves told calls (asked_for n read) left
+  pub asking_ends : AskingEnds told asking stop (asked_for n read) left
   pub at_end : asking ≡ Some ended.Over → IsAtEnd went.left
   pub read_cause : asking ≡ Some ended.ReadFault → Rose came.faults went.faults
-  pub wrote : Wrote taking came.held went.held (bytes_given (takes_of n steps))
+  pub wrote : Wrote taking came.held went.held (bytes_given n (takes_of n steps))
   pub last : taking ≡ Some took.Ended → (before : List Outcome) × (takes_of n steps ≡ before ++ outcome.Ended ∷ [])
   pub write_cause : taking ≡ Some took.WriteFault → Rose came.faults went.faults
 
@@ -164,12 +166,20 @@ abbrev pub FateCauses : Type 0 → List LinkRun → Type 0
 FateCauses cause [] = Unit {0}
 FateCauses cause (run ∷ runs) = FateCause cause run.fate × FateCauses cause runs
 
--- the session of a link that was entered is removed from the hall
+-- where the calls of a session set the channel of its live fence, the end of that was asked for, or could not be
+abbrev pub EndsFence : List Step → ℕ → Type 0
+EndsFence steps n = has_set n (calls_of n steps) ≡ true → ends_fence n steps ≡ true
+
+-- and of no other session
+abbrev pub FencesEnd : List Step → Type 0
+FencesEnd steps = (n : ℕ) → ends_fence n steps ≡ true → has_set n (calls_of n steps) ≡ true
+
+-- the session of a link that was entered is removed from the hall, and its live fence with it
 abbrev pub IsRemoved : List Step → LinkFate → Type 0
 IsRemoved steps (TurnedOut o) = Unit {0}
 IsRemoved steps (Starved n) = IsAmong (Removed n) steps
 IsRemoved steps (Unwatched n) = IsAmong (Removed n) steps
-IsRemoved steps (Served n asking taking) = IsAmong (Removed n) steps
+IsRemoved steps (Served n asking taking) = IsAmong (Removed n) steps × EndsFence steps n
 
 abbrev pub AreRemoved : List Step → List LinkRun → Type 0
 AreRemoved steps [] = Unit {0}

@@ -1,5 +1,6 @@
 -- The steps of a loop: what it asks of the hall, and which of that is a session's.
-use Rattle.std.specs.Prelude.{◌≡◌, ◌==◌, ℕ, zero, suc, List, [], ◌∷◌, ◌++◌, flat_map, Option, if◌then◌else◌}
+use Rattle.std.specs.Prelude.{◌≡◌, ◌==◌, ℕ, Bool, false, zero, suc, List, [], ◌∷◌, ◌++◌, flat_map, Option, Some, if◌then◌else◌}
+use Rattle.std.specs.List.{list_any}
 use Rattle.outside.specs.Causes.{next_count}
 use Rattle.world_model.specs.declared.events.Asked.{Asked}
 use Rattle.world_model.specs.declared.events.CallOutcome.{CallOutcome}
@@ -11,14 +12,20 @@ use Rattle.world_model.specs.Seats.{Act}
 use Rattle.session_run.specs.Calls.{Call}
 use Rattle.session_run.specs.Outs.{take_act}
 use Rattle.session_run.specs.Turns.{turn_calls}
-use Rattle.serve_run.specs.Tends.{IsTold, AreFew, tend_acts, shrink_acts}
+use Rattle.world_model.specs.declared.events.LogState.{LogState}
+use Rattle.serve_run.specs.declared.tends.ServeEnd.TheVariants as end
+use Rattle.serve_run.specs.Tends.{IsTold, AreFew, AreBelow, serve_end, tend_acts, broken_acts, shrink_acts, unfence_acts}
 
--- a Tick at a moment and so many Rewrites behind it, each answered Ok; a session of the server's own, which asked at a moment that the
--- log be rewritten, and was answered so; the same, where the Enter was refused; the caller of this number, and how the Enter for it was
+-- a Tick at a moment and so many Rewrites behind it, each answered Ok, of which the last told this of the log; a Tick that wanted memory, or
+-- a Rewrite that did behind so many that were answered Ok; a session of the server's own, which asked at a moment that the log be
+-- rewritten, and was answered so; the same, where the Enter was refused; the caller of this number, and how the Enter for it was
 -- answered; the calls of a session in one turn, at a moment: of these requests so many were answered Ok, and then all or the next one so; a
--- take of a session; its close; its removal
+-- take of a session; its close; its removal. Behind the removal of a session, the first number, whose calls had set the channel of its live
+-- fence: a session of the server's own, which asked at a moment that the channel be deleted, and was answered so; the same, where the Enter
+-- was refused; the same, where there was no memory to ask
 pub data Step : Type 0 where
-  Tended : ℕ → ℕ → Step
+  Tended : ℕ → ℕ → LogState → Step
+  Wanting : ℕ → Option ℕ → CallOutcome → Step
   Shrunk : ℕ → ℕ → CallOutcome → Step
   Unshrunk : Outcome → Step
   Joined : ℕ → Outcome → Step
@@ -26,10 +33,14 @@ pub data Step : Type 0 where
   Took : ℕ → Outcome → Step
   Closed : ℕ → Step
   Removed : ℕ → Step
+  Unfenced : ℕ → ℕ → ℕ → CallOutcome → Step
+  Unended : ℕ → Outcome → Step
+  Unasked : ℕ → Step
 
 -- the entries of a step
 abbrev pub step_acts : Step → List Act
-step_acts (Tended m n) = tend_acts m n
+step_acts (Tended m n log) = tend_acts m n
+step_acts (Wanting m n c) = broken_acts m n c
 step_acts (Shrunk n m c) = shrink_acts n m c
 step_acts (Unshrunk o) = (event.Enter, o) ∷ []
 step_acts (Joined caller o) = (event.Enter, o) ∷ []
@@ -37,6 +48,9 @@ step_acts (Called n m asked served end) = call_acts n m asked served end
 step_acts (Took n o) = take_act n o ∷ []
 step_acts (Closed n) = (event.Close n, outcome.Done) ∷ []
 step_acts (Removed n) = (event.Remove n, outcome.Done) ∷ []
+step_acts (Unfenced gone n m c) = unfence_acts gone n m c
+step_acts (Unended gone o) = (event.Enter, o) ∷ []
+step_acts (Unasked gone) = []
 
 abbrev pub steps_acts : List Step → List Act
 steps_acts steps = flat_map step_acts steps
@@ -55,6 +69,16 @@ takes_in n step = []
 
 abbrev pub takes_of : ℕ → List Step → List Outcome
 takes_of n steps = flat_map (takes_in n) steps
+
+-- behind the removal of a session the end of its live fence was asked for, or could not be
+abbrev pub ends_in : ℕ → Step → Bool
+ends_in n (Unfenced gone k m c) = gone == n
+ends_in n (Unended gone o) = gone == n
+ends_in n (Unasked gone) = gone == n
+ends_in n step = false
+
+abbrev pub ends_fence : ℕ → List Step → Bool
+ends_fence n steps = list_any (ends_in n) steps
 
 -- the callers that came, in order
 abbrev pub caller_in : Step → List ℕ
@@ -75,9 +99,11 @@ behind_callers from (suc n) = behind_callers (next_count from) n
 
 -- the moments of a step are the clock's, and behind a Tick there are few Rewrites
 abbrev pub IsTimely : Option ℕ → Step → Type 0
-IsTimely told (Tended m n) = IsTold told m × AreFew n
+IsTimely told (Tended m n log) = IsTold told m × AreFew n
+IsTimely told (Wanting m n c) = IsTold told m × AreBelow n × (serve_end c ≡ Some end.Memory)
 IsTimely told (Shrunk n m c) = IsTold told m
 IsTimely told (Called n m asked served end) = IsTold told m
+IsTimely told (Unfenced gone n m c) = IsTold told m
 IsTimely told step = Unit {0}
 
 abbrev pub AreTimely : Option ℕ → List Step → Type 0

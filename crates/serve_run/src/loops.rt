@@ -7,13 +7,15 @@ ghost use Rattle.outside.specs.Doors.{DoorState};
 ghost use Rattle.outside.specs.Waits.{Waits};
 ghost use Rattle.serve_run.specs.Tends.{IsTold};
 ghost use Rattle.serve_run.specs.Loops.{ServesReady, around};
-ghost use Rattle.serve_run.specs.LoopStates.{Keeps, KeepsShut, loop_state};
+ghost use Rattle.serve_run.specs.LoopStates.{Keeps, KeepsShutTo, loop_state};
 ghost use Rattle.serve_run.specs.declared.terms.Terms.{Terms};
-ghost use Rattle.serve_run.specs.LoopEnds.{LoopTurn, TendsTable, IsLastOf};
+ghost use Rattle.serve_run.specs.LoopEnds.{RoundTurn, TendsTable, IsLastOf};
+ghost use Rattle.serve_run.specs.Pacing.{untended};
 
 use crate::early_ends::end_early;
 use crate::joins::{Counts, let_in};
 use crate::marks::AllMarks;
+use crate::paces::Pace;
 use crate::shrinks::shrink_if_due;
 use crate::tables::{Table, all_in, all_out, none_open, shut_all, shut_over};
 use crate::tends::{ServeEnd, Served, tick_and_rewrite};
@@ -32,6 +34,8 @@ const BLOCK: usize = 65_536;
 struct Work {
     block: Vec<u8>,
     frames: Frames,
+    // When the next tick is due.
+    pace: Pace,
 }
 
 impl Work {
@@ -39,22 +43,33 @@ impl Work {
         ensures some { IfOk result (λ w. 0 < length w.block.items) }
         ensures bare { IfOk result (λ w. w.frames.list ≡ []) }
         ensures places { IfOk result (λ w. w.frames.places ≡ take_frames) }
+        ensures pace { IfOk result (λ w. w.pace.tending ≡ untended) }
     {
         let Ok(block) = vec![in alloc; 0u8; BLOCK] else {
             return Err(NoMemory);
         };
         let frames = Frames::new(alloc)?;
-        Ok(Work { block, frames })
+        Ok(Work {
+            block,
+            frames,
+            pace: Pace::new(),
+        })
     }
 }
 
 // Waits until somebody may be ready, or until the next tick is due, and marks who was named.
-fn look<D: ReadyDoor, W: WaitForLinks<D>>(wait: &mut W, all: &mut AllMarks) -> Result<(), Failed>
+fn look<D: ReadyDoor, W: WaitForLinks<D>>(
+    wait: &mut W,
+    all: &mut AllMarks,
+    pace: &mut Pace,
+) -> Result<(), Failed>
 where
     D::Link: Drop,
-    ensures { Waits (W.shows wait.old) (W.shows wait.new) result }
+    ensures waits { Waits (W.shows wait.old) (W.shows wait.new) result }
+    ensures pace { pace.new.tending ≡ pace.old.tending }
 {
-    let count = wait.wait(all.patience())?;
+    let count = wait.wait(all.patience(pace.patience()))?;
+    pace.looked(count == 0 && !all.is_busy);
     all.looked(count);
     for nth in 0..count {
         match wait.named(nth) {
@@ -77,31 +92,38 @@ fn tend_if_due<H: HallApi, C: Clock, R: Wait>(
     clock: &C,
     moment: u64,
     all: &mut AllMarks,
+    pace: &mut Pace,
+    terms: Terms,
     touched: ChangedSessions,
 ) -> (Option<ServeEnd>, ChangedSessions)
     requires seat { H.is_of hall.now seat.old }
     requires moment { moment ≤ max_moment }
     ensures seat { H.is_of hall.now seat.new }
-    ensures tends { (told : Option ℕ) → (terms : Terms) → IsTold told moment
-        → TendsTable told terms (H.knows seat.old) (H.knows seat.new) result.0 }
+    ensures tends { (told : Option ℕ) → IsTold told moment
+        → TendsTable told terms pace.old.tending pace.new.tending (H.knows seat.old) (H.knows seat.new) result.0 }
 {
-    if !all.is_tick_due(moment) {
+    let is_due = pace.is_tick_due(moment);
+    all.begin(moment, is_due);
+    if !is_due {
         return (None, touched);
     }
-    let steps = all.pace.steps();
-    let (end, log, touched) = tick_and_rewrite(rt, hall, seat, moment, steps, touched);
-    all.pace.tended(clock.now(), log);
+    let steps = pace.steps();
+    let (tended, touched) = tick_and_rewrite(rt, hall, seat, moment, steps, touched);
     all.touch(&touched);
-    match end {
-        Some(end) => (Some(end), touched),
-        None => shrink_if_due(rt, alloc, hall, seat, moment, &mut all.pace, touched),
+    match tended {
+        Ok(log) => {
+            pace.tended(clock.now(), log);
+            shrink_if_due(rt, alloc, hall, seat, moment, pace, terms, touched)
+        }
+        Err(end) => (pace.end_of(end, moment), touched),
     }
 }
 
 // What a round does for those who are served: the calls of all, and then the takes of all, so that one commit serves the
-// round; and the links of those who are through are shut. Whether the loop can go on.
+// round; and those who are through are removed, and their links shut. The end that this brings.
 fn serve_all<H: HallApi, D: ReadyDoor, W: WaitForLinks<D>, R: Wait>(
     rt: &R,
+    alloc: Global,
     hall: &H,
     seat: &mut H::Seat,
     moment: u64,
@@ -110,7 +132,7 @@ fn serve_all<H: HallApi, D: ReadyDoor, W: WaitForLinks<D>, R: Wait>(
     all: &mut AllMarks,
     work: &mut Work,
     touched: ChangedSessions,
-) -> (bool, ChangedSessions)
+) -> (Option<ServeEnd>, ChangedSessions)
 where
     D::Link: Drop,
     requires seat { H.is_of hall.now seat.old }
@@ -122,12 +144,13 @@ where
     ensures some { 0 < length work.new.block.items }
     ensures bare { work.new.frames.list ≡ [] }
     ensures places { work.new.frames.places ≡ take_frames }
-    ensures keeps { (told : Option ℕ) → (terms : Terms) → IsTold told moment → KeepsShut told terms (H.knows seat.old) (H.knows seat.new)
+    ensures pace { work.new.pace ≡ work.old.pace }
+    ensures keeps { (told : Option ℕ) → (terms : Terms) → IsTold told moment → KeepsShutTo told terms (H.knows seat.old) (H.knows seat.new)
         (W.shows wait.old) (W.shows wait.new) table.old.items table.new.items result.0 }
 {
     let touched = all_in(rt, hall, seat, moment, table, all, &mut work.block, touched);
     all_out(rt, hall, seat, table, all, &mut work.frames);
-    (shut_over(rt, hall, seat, wait, table, all), touched)
+    shut_over(rt, alloc, hall, seat, moment, wait, table, all, touched)
 }
 
 // Whether no caller comes any more, so that the loop ends with the last link.
@@ -169,17 +192,20 @@ where
     ensures places { work.new.frames.places ≡ take_frames }
     ensures room { counts.new.joined ≤ terms.limit }
     ensures few { counts.new.starved ≤ counts.new.joined }
-    ensures turn { LoopTurn (C.told clock.now) terms
+    ensures turn { RoundTurn (C.told clock.now) terms work.old.pace.tending work.new.pace.tending
         (loop_state (H.knows seat.old) (D.shows door.old) (W.shows wait.old) table.old.items
         counts.old.joined counts.old.starved counts.old.is_over true)
         (loop_state (H.knows seat.new) (D.shows door.new) (W.shows wait.new) table.new.items
         counts.new.joined counts.new.starved counts.new.is_over true) result.0 }
 {
-    if let Err(Failed) = look(wait, all) {
+    if let Err(Failed) = look(wait, all, &mut work.pace) {
         return (Some(ServeEnd::DoorFault), touched);
     }
     let moment = clock.now();
-    let (tended, touched) = tend_if_due(rt, alloc, hall, seat, clock, moment, all, touched);
+    let pace = &mut work.pace;
+    let (tended, touched) = tend_if_due(
+        rt, alloc, hall, seat, clock, moment, all, pace, terms, touched,
+    );
     if let Some(end) = tended {
         return (Some(end), touched);
     }
@@ -188,9 +214,11 @@ where
     if let Some(end) = came {
         return (Some(end), touched);
     }
-    let (goes_on, touched) = serve_all(rt, hall, seat, moment, wait, table, all, work, touched);
-    if !goes_on {
-        return (Some(ServeEnd::Memory), touched);
+    let (served, touched) = serve_all(
+        rt, alloc, hall, seat, moment, wait, table, all, work, touched,
+    );
+    if let Some(end) = served {
+        return (Some(end), touched);
     }
     if is_last(wait, counts, terms) && none_open(table) {
         return (Some(ServeEnd::Done), touched);
@@ -223,7 +251,7 @@ where
     requires few { counts.old.starved ≤ counts.old.joined }
     ensures seat { H.is_of hall.now seat.new }
     ensures room { counts.new.joined ≤ terms.limit }
-    ensures turn { LoopTurn (C.told clock.now) terms
+    ensures turn { RoundTurn (C.told clock.now) terms work.old.pace.tending work.new.pace.tending
         (loop_state (H.knows seat.old) (D.shows door.old) (W.shows wait.old) table.old.items
         counts.old.joined counts.old.starved counts.old.is_over true)
         (loop_state (H.knows seat.new) (D.shows door.new) (W.shows wait.new) table.new.items
@@ -263,7 +291,7 @@ where
     requires few { counts.old.starved ≤ counts.old.joined }
     ensures seat { H.is_of hall.now seat.new }
     ensures room { counts.new.joined ≤ terms.limit }
-    ensures turn { LoopTurn (C.told clock.now) terms
+    ensures turn { RoundTurn (C.told clock.now) terms untended untended
         (loop_state (H.knows seat.old) (D.shows door.old) (W.shows wait.old) table.old.items
         counts.old.joined counts.old.starved counts.old.is_over true)
         (loop_state (H.knows seat.new) (D.shows door.new) (W.shows wait.new) table.new.items

@@ -3,7 +3,7 @@
 //! Nothing is claimed of it, as nothing is claimed of readiness: a mark that is lost is a caller who waits for ever, and
 //! one that is too many costs a call that answers Later. So it stands beside the sessions and not in them.
 
-use crate::paces::Pace;
+use crate::paces::GLANCE_MILLIS;
 use crate::terms::Terms;
 use byte_text::NoMemory;
 use std::alloc::Global;
@@ -27,6 +27,10 @@ pub(crate) struct Marks {
     pub(crate) may_write: bool,
     /// There may be frames to take.
     pub(crate) is_due: bool,
+    /// The next call may be the session's last one, so that its end is looked for behind its frames.
+    pub(crate) may_end: bool,
+    /// All frames were taken, and whether the session has ended behind them was not looked for.
+    pub(crate) is_unsure: bool,
     /// The hall was told to close the session.
     pub(crate) is_closed: bool,
     /// Something was read of the link, or given to it.
@@ -43,6 +47,8 @@ impl Marks {
             is_filled: false,
             may_write: true,
             is_due: false,
+            may_end: false,
+            is_unsure: false,
             is_closed: false,
             is_moved: false,
             since,
@@ -56,6 +62,8 @@ impl Marks {
             is_filled: false,
             may_write: false,
             is_due: false,
+            may_end: false,
+            is_unsure: false,
             is_closed: false,
             is_moved: false,
             since: 0,
@@ -95,8 +103,8 @@ pub(crate) struct AllMarks {
     pub(crate) may_accept: bool,
     /// There is something to do without a wait.
     pub(crate) is_busy: bool,
-    /// When the next tick is due.
-    pub(crate) pace: Pace,
+    // Of some session it was not looked for whether it has ended.
+    is_unsure: bool,
     // Milliseconds that a link may stand still; 0 for any number.
     idle: u64,
     // The moment of the round.
@@ -115,7 +123,7 @@ impl AllMarks {
             places: BTreeMap::new(alloc),
             may_accept: true,
             is_busy: false,
-            pace: Pace::new(terms.shrink_at),
+            is_unsure: false,
             idle: u64::from(terms.idle) * 1000,
             now: 0,
             is_look_due: false,
@@ -123,29 +131,46 @@ impl AllMarks {
         }
     }
 
-    /// Milliseconds to wait for somebody to be ready.
-    pub(crate) fn patience(&self) -> u32 {
+    /// Milliseconds to wait for somebody to be ready, where so many are left until the next tick.
+    pub(crate) fn patience(&self, to_tick: u32) -> u32 {
         if self.is_busy {
             0
+        } else if self.is_unsure {
+            GLANCE_MILLIS.min(to_tick)
         } else {
-            self.pace.patience()
+            to_tick
         }
     }
 
-    /// So many were named by a wait.
+    /// So many were named by a wait. Where nobody was, there is time to look for sessions that have ended.
     pub(crate) fn looked(&mut self, count: usize) {
-        self.pace.looked(count == 0 && !self.is_busy);
+        if count == 0 {
+            self.look_for_ends();
+        }
         self.is_busy = false;
     }
 
-    /// Whether a tick is due at this moment; it is made then. A door that had no means to let a caller in does not name
-    /// him again, so it is looked at then.
-    pub(crate) fn is_tick_due(&mut self, moment: u64) -> bool {
-        let is_due = self.pace.is_tick_due(moment);
-        self.may_accept = self.may_accept || is_due;
+    // Each session whose frames were all taken is taken from once more, which tells whether it has ended.
+    fn look_for_ends(&mut self) {
+        if !self.is_unsure {
+            return;
+        }
+        self.is_unsure = false;
+        for marks in &mut self.by_place {
+            marks.is_due = marks.is_due || marks.is_unsure;
+            marks.is_unsure = false;
+        }
+    }
+
+    /// A round begins at a moment, with a tick or without. A door that had no means to let a caller in does not name him
+    /// again, so it is looked at with each tick.
+    pub(crate) fn begin(&mut self, moment: u64, is_tick_due: bool) {
+        if is_tick_due {
+            self.may_accept = true;
+            self.look_for_ends();
+        }
         self.now = moment;
-        self.is_look_due = is_due;
-        is_due
+        self.is_look_due = is_tick_due;
     }
 
     /// Whether it is to be looked who stands still. That is so once a tick.
@@ -216,6 +241,7 @@ impl AllMarks {
             } else {
                 marks.since
             };
+            self.is_unsure = self.is_unsure || marks.is_unsure;
             self.by_place[place] = Marks {
                 is_moved: false,
                 since,
@@ -229,6 +255,13 @@ impl AllMarks {
         if place < self.by_place.len() {
             self.by_place[place].may_read = true;
             self.by_place[place].may_write = true;
+        }
+    }
+
+    /// The next call of a place's session may be its last one.
+    pub(crate) fn expect_end(&mut self, place: usize) {
+        if place < self.by_place.len() {
+            self.by_place[place].may_end = true;
         }
     }
 

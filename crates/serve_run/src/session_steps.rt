@@ -15,7 +15,8 @@ use crate::marks::{AllMarks, Marks};
 use outside::{Got, ReadyLink, Sent};
 use session_run::Session;
 use std::sync::Wait;
-use world_model::{CallOutcome, ChangedSessions, Frames, HallApi, Taken};
+use world_data::TAKE;
+use world_model::{Asked, AskedList, CallOutcome, ChangedSessions, Frames, HallApi, Taken};
 
 // The turns of one session in a round. Each has at most 64 requests, so that their replies fill a session's queue in the
 // hall and no more.
@@ -48,6 +49,19 @@ fn read_once<K: ReadyLink + Drop>(session: &mut Session<K>, marks: &mut Marks, b
     }
 }
 
+// Whether the last of these requests ends the session: QUIT, or what is no request.
+fn asks_to_end(asked: &AskedList) -> bool {
+    match asked.len() {
+        0 => false,
+        count => match asked.at(count - 1) {
+            Asked::Words(request) => {
+                request.words() == 1 && request.word(0).eq_ignore_ascii_case(b"QUIT")
+            }
+            Asked::Broken(_) => true,
+        },
+    }
+}
+
 // Makes the calls of a session's requests. Whether each was answered Ok.
 fn ask<H: HallApi, K: ReadyLink + Drop, R: Wait>(
     rt: &R,
@@ -55,6 +69,8 @@ fn ask<H: HallApi, K: ReadyLink + Drop, R: Wait>(
     seat: &mut H::Seat,
     moment: u64,
     session: &mut Session<K>,
+    place: usize,
+    all: &mut AllMarks,
     touched: ChangedSessions,
 ) -> (bool, ChangedSessions)
     requires seat { H.is_of hall.now seat.old }
@@ -65,8 +81,12 @@ fn ask<H: HallApi, K: ReadyLink + Drop, R: Wait>(
         → StepsOn told (H.knows seat.old) (H.knows seat.new) session.old session.new }
 {
     let asked = session.move_asked();
+    if asks_to_end(&asked) {
+        all.expect_end(place);
+    }
     let (answers, asked, touched) = hall.calls(rt, seat, session.number(), moment, asked, touched);
     session.on_answered(asked, answers);
+    all.touch(&touched);
     (matches!(answers.end, CallOutcome::Ok), touched)
 }
 
@@ -77,6 +97,7 @@ fn ask_all<H: HallApi, K: ReadyLink + Drop, R: Wait>(
     seat: &mut H::Seat,
     moment: u64,
     session: &mut Session<K>,
+    place: usize,
     all: &mut AllMarks,
     touched: ChangedSessions,
 ) -> ChangedSessions
@@ -91,8 +112,7 @@ fn ask_all<H: HallApi, K: ReadyLink + Drop, R: Wait>(
         if !session.wants_turn() {
             return touched;
         }
-        let (goes_on, back) = ask(rt, hall, seat, moment, session, touched);
-        all.touch(&back);
+        let (goes_on, back) = ask(rt, hall, seat, moment, session, place, all, touched);
         touched = back;
         if !goes_on {
             return touched;
@@ -129,7 +149,7 @@ pub(crate) fn step_in<H: HallApi, K: ReadyLink + Drop, R: Wait>(
     }
     marks.is_due = true;
     all.put(place, marks);
-    ask_all(rt, hall, seat, moment, session, all, touched)
+    ask_all(rt, hall, seat, moment, session, place, all, touched)
 }
 
 // Takes a session's frames once, where there may be some.
@@ -156,13 +176,22 @@ fn take_once<H: HallApi, K: ReadyLink + Drop, R: Wait>(
     let taken = hall.take(rt, seat, session.number(), frames);
     session.on_taken(taken, frames);
     frames.clear();
-    marks.is_due = gave_some(taken);
-    marks.is_moved = marks.is_moved || marks.is_due;
+    note_taken(marks, taken);
 }
 
-// Whether there may be more frames behind a take.
-fn gave_some(taken: Taken) -> bool {
-    matches!(taken, Taken::Some(_))
+// Whether a further take is worth while: behind as many frames as one take gives there may be more, and a session whose
+// asking came to its end has most likely ended. Else there are no more frames, and whether the session has ended all the
+// same, since its queue had no room, is looked for when there is time.
+fn note_taken(marks: &mut Marks, taken: Taken) {
+    marks.is_unsure = false;
+    marks.is_due = match taken {
+        Taken::Some(count) => {
+            marks.is_moved = true;
+            marks.is_unsure = count < TAKE;
+            count >= TAKE || marks.may_end || marks.is_closed
+        }
+        _ => false,
+    };
 }
 
 // Writes a session's link once, where it may.
@@ -254,8 +283,8 @@ fn is_busy<K: ReadyLink>(session: &Session<K>, marks: Marks) -> bool {
         || (marks.is_filled && session.wants_to_read())
 }
 
-/// The second half of a round: the session is given its frames, and they are written. The last take finds out that there
-/// are no more, so that no further round is needed for that.
+/// The second half of a round: the session is given its frames, and they are written. Where its end is to be expected, the
+/// last take finds out, so that no further round is needed for that.
 pub(crate) fn step_out<H: HallApi, K: ReadyLink + Drop, R: Wait>(
     rt: &R,
     hall: &H,

@@ -3,17 +3,21 @@
 ghost use Rattle.std.specs.Prelude.{◌≡◌, ◌≤◌, ◌∷◌, [], ℕ, Option, IfOk};
 ghost use Rattle.world_data.specs.Limits.{max_moment};
 ghost use Rattle.world_model.specs.declared.events.Asked.TheVariants as asks_for;
+ghost use Rattle.serve_run.specs.declared.tendings.Tending.{Tending};
+ghost use Rattle.serve_run.specs.declared.terms.Terms.{Terms};
+ghost use Rattle.serve_run.specs.Pacing.{HasGrown};
 ghost use Rattle.serve_run.specs.Tends.{IsTold, Shrinks, shrink_end, shrink_words};
 
 use crate::paces::Pace;
 use crate::tends::ServeEnd;
+use crate::terms::Terms;
 use byte_text::{NoMemory, Request};
 use std::alloc::Global;
 use std::sync::Wait;
 use world_model::{Asked, AskedList, CallOutcome, ChangedSessions, HallApi};
 
-// The end that the answer brings. Where it was asked for in vain, the loop goes on.
-fn shrink_end(answer: CallOutcome) -> Option<ServeEnd>
+/// The end that the answer brings to what a session of the server's own asked. Where that was in vain, the loop goes on.
+pub(crate) fn shrink_end(answer: CallOutcome) -> Option<ServeEnd>
     ensures { result ≡ shrink_end answer }
 {
     match answer {
@@ -56,8 +60,8 @@ fn shrink<H: HallApi, R: Wait>(
     requires seat { H.is_of hall.now seat.old }
     requires moment { moment ≤ max_moment }
     ensures seat { H.is_of hall.now seat.new }
-    ensures shrinks { (told : Option ℕ) → IsTold told moment
-        → Shrinks told (H.knows seat.old) (H.knows seat.new) result.0 }
+    ensures shrinks { (told : Option ℕ) → (terms : Terms) → (t : Tending) → IsTold told moment → HasGrown terms t
+        → Shrinks told terms t (H.knows seat.old) (H.knows seat.new) result.0 }
 {
     let Ok(asked) = asked(alloc) else {
         return (None, touched);
@@ -79,15 +83,17 @@ pub(crate) fn shrink_if_due<H: HallApi, R: Wait>(
     seat: &mut H::Seat,
     moment: u64,
     pace: &mut Pace,
+    terms: Terms,
     touched: ChangedSessions,
 ) -> (Option<ServeEnd>, ChangedSessions)
     requires seat { H.is_of hall.now seat.old }
     requires moment { moment ≤ max_moment }
     ensures seat { H.is_of hall.now seat.new }
     ensures shrinks { (told : Option ℕ) → IsTold told moment
-        → Shrinks told (H.knows seat.old) (H.knows seat.new) result.0 }
+        → Shrinks told terms pace.old.tending (H.knows seat.old) (H.knows seat.new) result.0 }
+    ensures same { pace.new.tending ≡ pace.old.tending }
 {
-    if !pace.is_shrink_due(moment) {
+    if !pace.is_shrink_due(moment, terms) {
         return (None, touched);
     }
     shrink(rt, alloc, hall, seat, moment, touched)

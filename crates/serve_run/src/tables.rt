@@ -7,15 +7,17 @@ ghost use Rattle.serve_run.specs.Tends.{IsTold};
 ghost use Rattle.world_model.specs.Seats.{Knows};
 ghost use Rattle.outside.specs.Doors.{DoorState};
 ghost use Rattle.session_run.specs.Sessions.{SessionState, IsOver};
-ghost use Rattle.serve_run.specs.SessionSteps.{RemovesSession};
 ghost use Rattle.serve_run.specs.declared.terms.Terms.{Terms};
-ghost use Rattle.serve_run.specs.LoopEnds.{ShutBy};
-ghost use Rattle.serve_run.specs.LoopStates.{Keeps, KeepsTable, KeepsShut, NoneOpen, loop_state};
+ghost use Rattle.serve_run.specs.LoopEnds.{ShutBy, end_behind};
+ghost use Rattle.serve_run.specs.LoopStates.{Keeps, KeepsTable, KeepsShutTo, NoneOpen, loop_state};
 
 use crate::marks::AllMarks;
 use crate::session_steps::{step_in, step_out};
+use crate::tends::ServeEnd;
+use crate::unfences::remove;
 use outside::{ReadyDoor, ReadyLink, WaitForLinks};
 use session_run::Session;
+use std::alloc::Global;
 use std::mem;
 use std::sync::Wait;
 use world_model::{ChangedSessions, Frames, HallApi};
@@ -143,72 +145,86 @@ fn take_over<K: ReadyLink + Drop>(table: &mut Table<K>, place: usize) -> Option<
     mem::replace(&mut table[place], None)
 }
 
-// Removes a session from the hall, also where the hall has done so with its last frame.
-fn remove<H: HallApi, K: ReadyLink + Drop, R: Wait>(
-    rt: &R,
-    hall: &H,
-    seat: &mut H::Seat,
-    session: &Session<K>,
-)
-    requires seat { H.is_of hall.now seat.old }
-    ensures seat { H.is_of hall.now seat.new }
-    ensures steps { (told : Option ℕ)
-        → RemovesSession told (H.knows seat.old) (H.knows seat.new) session.now }
+// The end that a removal brings, or else want of memory where the one that waits could not tell the link.
+fn end_behind(removed: Option<ServeEnd>, is_told: bool) -> Option<ServeEnd>
+    ensures { result ≡ end_behind removed is_told }
 {
-    hall.remove(rt, seat, session.number());
+    match removed {
+        Some(end) => Some(end),
+        None if is_told => None,
+        None => Some(ServeEnd::Memory),
+    }
 }
 
-// Shuts the link of the session of a place, where it is over. Whether the one that waits could tell it.
+// Removes the session of a place, where it is over, and shuts its link. The end that this brings, and the sessions that
+// were touched.
 fn shut_one<H: HallApi, D: ReadyDoor, W: WaitForLinks<D>, R: Wait>(
     rt: &R,
+    alloc: Global,
     hall: &H,
     seat: &mut H::Seat,
+    moment: u64,
     wait: &mut W,
     table: &mut Table<D::Link>,
     place: usize,
     all: &mut AllMarks,
-) -> bool
+    touched: ChangedSessions,
+) -> (Option<ServeEnd>, ChangedSessions)
 where
     D::Link: Drop,
     requires seat { H.is_of hall.now seat.old }
+    requires moment { moment ≤ max_moment }
     requires within { place < length table.old.items }
     ensures seat { H.is_of hall.now seat.new }
-    ensures keeps { (told : Option ℕ) → (terms : Terms) → KeepsShut told terms (H.knows seat.old) (H.knows seat.new)
-        (W.shows wait.old) (W.shows wait.new) table.old.items table.new.items result }
+    ensures keeps { (told : Option ℕ) → (terms : Terms) → IsTold told moment
+        → KeepsShutTo told terms (H.knows seat.old) (H.knows seat.new)
+        (W.shows wait.old) (W.shows wait.new) table.old.items table.new.items result.0 }
     ensures length { length table.new.items ≡ length table.old.items }
 {
     match take_over(table, place) {
         Some(session) => {
             all.leave(session.number());
-            remove(rt, hall, seat, &session);
-            shut(wait, session.into_link())
+            let (removed, touched) = remove(rt, alloc, hall, seat, moment, &session, all, touched);
+            let is_told = shut(wait, session.into_link());
+            (end_behind(removed, is_told), touched)
         }
-        None => true,
+        None => (None, touched),
     }
 }
 
-/// Shuts the link of each session that is over. Whether the one that waits could tell each.
+/// Removes each session that is over, and shuts its link, up to an end that this brings. That end, and the sessions that
+/// were touched.
 pub(crate) fn shut_over<H: HallApi, D: ReadyDoor, W: WaitForLinks<D>, R: Wait>(
     rt: &R,
+    alloc: Global,
     hall: &H,
     seat: &mut H::Seat,
+    moment: u64,
     wait: &mut W,
     table: &mut Table<D::Link>,
     all: &mut AllMarks,
-) -> bool
+    touched: ChangedSessions,
+) -> (Option<ServeEnd>, ChangedSessions)
 where
     D::Link: Drop,
     requires seat { H.is_of hall.now seat.old }
+    requires moment { moment ≤ max_moment }
     ensures seat { H.is_of hall.now seat.new }
-    ensures keeps { (told : Option ℕ) → (terms : Terms) → KeepsShut told terms (H.knows seat.old) (H.knows seat.new)
-        (W.shows wait.old) (W.shows wait.new) table.old.items table.new.items result }
+    ensures keeps { (told : Option ℕ) → (terms : Terms) → IsTold told moment
+        → KeepsShutTo told terms (H.knows seat.old) (H.knows seat.new)
+        (W.shows wait.old) (W.shows wait.new) table.old.items table.new.items result.0 }
 {
+    let mut touched = touched;
     for place in 0..table.len() {
-        if !shut_one(rt, hall, seat, wait, table, place, all) {
-            return false;
+        let (end, back) = shut_one(
+            rt, alloc, hall, seat, moment, wait, table, place, all, touched,
+        );
+        touched = back;
+        if let Some(end) = end {
+            return (Some(end), touched);
         }
     }
-    true
+    (None, touched)
 }
 
 /// Whether no session is open.

@@ -1,9 +1,9 @@
-//! The Tick and the Rewrites behind it. A step of rewriting copies at most 256 items; one that is not answered Ok ends
-//! the loop.
+//! The Tick and the Rewrites behind it. A step of rewriting copies at most 256 items. One that is not answered Ok ends
+//! the loop, but for one that wanted memory: it is tried again for a while.
 
-ghost use Rattle.std.specs.Prelude.{◌≡◌, ◌≤◌, ℕ, Option};
+ghost use Rattle.std.specs.Prelude.{◌≡◌, ◌≤◌};
 ghost use Rattle.world_data.specs.Limits.{max_moment};
-ghost use Rattle.serve_run.specs.Tends.{IsTold, AreFew, Tends, Rewritten, serve_end};
+ghost use Rattle.serve_run.specs.Tends.{AreFew, Tends, Rewritten, serve_end};
 
 use std::sync::Wait;
 use world_model::{CallOutcome, ChangedSessions, HallApi, LogState};
@@ -48,17 +48,17 @@ fn serve_end(answer: CallOutcome) -> Option<ServeEnd>
 }
 
 // Makes the Rewrites that stand behind a Tick: so many as long as the log is rewritten, else one, which commits what is
-// pending; or those up to the first that brings an end. That end, and what the last one told of the log.
+// pending; or those up to the first that brings an end. What the last one told of the log, or that end.
 fn step_rewrites<H: HallApi, R: Wait>(
     rt: &R,
     hall: &H,
     seat: &mut H::Seat,
     steps: u32,
-) -> (Option<ServeEnd>, LogState)
+) -> Result<LogState, ServeEnd>
     requires seat { H.is_of hall.now seat.old }
     requires few { AreFew steps }
     ensures seat { H.is_of hall.now seat.new }
-    ensures rewritten { Rewritten (H.knows seat.old) (H.knows seat.new) result.0 }
+    ensures rewritten { Rewritten (H.knows seat.old) (H.knows seat.new) result }
 {
     let mut log = LogState {
         bytes: 0,
@@ -66,18 +66,19 @@ fn step_rewrites<H: HallApi, R: Wait>(
     };
     for _ in 0..steps {
         let (rewritten, told) = hall.step_rewrite(rt, seat);
-        log = told;
         if let Some(end) = serve_end(rewritten) {
-            return (Some(end), log);
+            return Err(end);
         }
+        log = told;
         if !told.is_rewriting {
-            return (None, log);
+            return Ok(log);
         }
     }
-    (None, log)
+    Ok(log)
 }
 
-/// Makes a Tick at a moment and Rewrites behind it, up to so many.
+/// Makes a Tick at a moment and Rewrites behind it, up to so many. What the last one told of the log, or the end that an
+/// answer brings, which is `Memory` where one of them wanted memory.
 pub(crate) fn tick_and_rewrite<H: HallApi, R: Wait>(
     rt: &R,
     hall: &H,
@@ -85,26 +86,16 @@ pub(crate) fn tick_and_rewrite<H: HallApi, R: Wait>(
     moment: u64,
     steps: u32,
     touched: ChangedSessions,
-) -> (Option<ServeEnd>, LogState, ChangedSessions)
+) -> (Result<LogState, ServeEnd>, ChangedSessions)
     requires seat { H.is_of hall.now seat.old }
     requires moment { moment ≤ max_moment }
     requires few { AreFew steps }
     ensures seat { H.is_of hall.now seat.new }
-    ensures tends { (told : Option ℕ) → IsTold told moment
-        → Tends told (H.knows seat.old) (H.knows seat.new) result.0 }
+    ensures tends { Tends moment (H.knows seat.old) (H.knows seat.new) result.0 }
 {
     let (ticked, touched) = hall.tick(rt, seat, moment, touched);
     match serve_end(ticked) {
-        Some(end) => {
-            let log = LogState {
-                bytes: 0,
-                is_rewriting: false,
-            };
-            (Some(end), log, touched)
-        }
-        None => {
-            let (end, log) = step_rewrites(rt, hall, seat, steps);
-            (end, log, touched)
-        }
+        Some(end) => (Err(end), touched),
+        None => (step_rewrites(rt, hall, seat, steps), touched),
     }
 }

@@ -17,6 +17,13 @@ use Rattle.world_model.specs.declared.events.CallOutcome.TheVariants as called
 use Rattle.world_model.specs.declared.events.Entry.{Entry}
 use Rattle.world_model.specs.declared.events.Event.TheVariants as event
 use Rattle.world_model.specs.declared.events.Outcome.{Outcome}
+use Rattle.durable_core.specs.Histories.{LeavesGeneration, Writing, writing_of}
+use Rattle.durable_core.specs.Logged.{generation_of}
+use Rattle.durable_core.specs.Upgrading.{upgraded}
+use Rattle.durable_core.specs.declared.cores.DurableCore.{DurableCore}
+use Rattle.durable_core.specs.declared.rewritings.Rewriting.{Rewriting}
+use Rattle.durable_core.specs.declared.rewritings.Rewriting.TheVariants.{Idle}
+use Rattle.journal.specs.Openings.{opened_generation, opened_version}
 use Rattle.journal.specs.declared.openings.OpenFault.{OpenFault}
 use Rattle.journal.specs.declared.openings.OpenFault.TheVariants as fault_of
 use Rattle.log_record.specs.Readings.{Damaged}
@@ -37,7 +44,7 @@ use Rattle.replay_run.specs.HaltLaws.{unspent_at, damaged_at}
 use Rattle.replay_run.specs.declared.halts.Halt.{Halt}
 use Rattle.replay_run.specs.declared.halts.Halt.TheVariants as halted
 use Rattle.tile_top.specs.Tops.{IsHaltEnd, check_line}
-use Rattle.tile_top.specs.Fronts.{EndsBehind, Fronts, IsCounted, IsDue, IsFirst, IsLeft, IsRetired, IsSettled, ServesFront}
+use Rattle.tile_top.specs.Fronts.{EndsBehind, Fronts, IsCounted, IsDue, IsFirst, IsLeft, IsRetired, IsRewritten, IsSettled, IsWrittenFrom, ServesFront, opened_writing}
 
 -- what is told of an opening that failed
 pub unspent_as : (why : OpenFault) (h : Halt) → h ≡ halt_at why → h ≢ halted.Spent
@@ -192,6 +199,31 @@ given_left {D} images left_since old new (Some p) given is adds safe stands =
       safe = safe;
       settled = λ s. stands (retired_ok old new p.1 adds s);
     })
+
+-- and how far its log was rewritten then
+pub given_written : {D : Type 0} (seen : D → Option Sides) (first : Writing) (old new : Knows) (r : Option (D × CallOutcome)) (given : D × CallOutcome) → r ≡ Some given
+    → Adds event.Retire (retire_outcome r) old new
+    → IfSome r (λ p. p.1 ≡ called.Ok → (s : Sides) → seen p.0 ≡ Some s → LeavesGeneration new.opening first new.seen (opened_generation s))
+    → IsWrittenFrom seen first given.0 new
+given_written seen first old new None given is adds leaves = absurd (cc)
+given_written {D} seen first old new (Some p) given is adds leaves =
+    let same : p ≡ given = cc in
+    subst (λ (x : D × CallOutcome). IsWrittenFrom seen first x.0 new) same (λ settled. leaves (retired_ok old new p.1 adds settled))
+
+-- from the opening of the disk that was handed in
+pub written_as : {F D : Type 0} (shows : F → Knows) (seen : D → Option Sides) (handed : D) (first : Writing) (front : Option F) (disk : Option D)
+    → ((s : Sides) → seen handed ≡ Some s → first ≡ opened_writing s)
+    → IfSome front (λ last. IfSome disk (λ d. IsWrittenFrom seen first d (shows last)))
+    → IfSome front (λ last. IfSome disk (λ d. IsRewritten seen handed d (shows last)))
+written_as shows seen handed first None disk is w = tt
+written_as shows seen handed first (Some x) None is w = tt
+written_as shows seen handed first (Some x) (Some d) is w = λ s told. subst (λ (f : Writing). IsWrittenFrom seen f d (shows x)) (is s told) w
+
+pub opened_as : {D : Type 0} (core c : DurableCore D) (s : Sides) → core ≡ c → c.tail.rewriting ≡ Idle → generation_of c ≡ upgraded (opened_version s) (opened_generation s)
+    → writing_of core ≡ opened_writing s
+opened_as {D} core c s same idle generation =
+    ap (λ (x : DurableCore D). writing_of x) same ∙ ap (λ (r : Rewriting). record { rewriting = r; generation = generation_of c }) idle
+    ∙ ap (λ (n : ℕ). record { rewriting = Idle; generation = n }) generation
 
 -- a hall was retired behind its serving
 pub fronts_behind : {F : Type 0} (shows : F → Knows) (seen : Option Sides) (told : Option ℕ) (s : Serve) (first served : Knows) (door door' : DoorState) (wait wait' : WaitState) (held between held' : Option Bytes) (before status : ℕ) (front : Option F)

@@ -13,8 +13,12 @@ use Rattle.world_model.specs.declared.events.CallOutcome.TheVariants as called
 use Rattle.world_model.specs.declared.events.Entry.{Entry}
 use Rattle.world_model.specs.declared.events.Event.TheVariants as event
 use Rattle.world_model.specs.declared.events.Outcome.{Outcome}
+use Rattle.journal.specs.Openings.{opened_generation, opened_version}
 use Rattle.log_record.specs.Recovery.{Recovers}
 use Rattle.log_record.specs.Safety.{Safe, count_after}
+use Rattle.durable_core.specs.Histories.{LeavesGeneration, Writing}
+use Rattle.durable_core.specs.Upgrading.{upgraded}
+use Rattle.durable_core.specs.declared.rewritings.Rewriting.TheVariants.{Idle}
 use Rattle.serve_run.specs.Ends.{IsEnd, disk_line}
 use Rattle.serve_run.specs.Words.{Serve}
 use Rattle.serve_run.specs.Loops.{around}
@@ -79,6 +83,21 @@ pub record IsCounted (handed given : ℕ) (k : Knows) : Type 0 where
 pub record IsLeft {D : Type 0} (images : D → Sides → Type 0) (left_since : D → ℕ → Sides → Type 0) (disk : D) (k : Knows) : Type 0 where
   pub safe : Safe left_since disk k.opening k.seen
   pub settled : IsSettled k.seen → (h : Hall) → Reaches k.opening k.seen h → EachImage (images disk) (λ image. Recovers image h.world)
+
+-- How far the log of a disk is rewritten where it was opened: not at all, and it is of the generation that was found, or of the next one where
+-- its version was an older one.
+abbrev pub opened_writing : Sides → Writing
+opened_writing s = record { rewriting = Idle; generation = upgraded (opened_version s) (opened_generation s) }
+
+-- Where the last of what a seat has seen is a retirement that was answered Ok, an opening finds on the disk a log of the generation to which
+-- the rewritings of all of that lead: of one more for each that came to its end.
+abbrev pub IsWrittenFrom : {D : Type 0} → (D → Option Sides) → Writing → D → Knows → Type 0
+IsWrittenFrom seen first disk k = IsSettled k.seen → (s : Sides) → seen disk ≡ Some s
+    → LeavesGeneration k.opening first k.seen (opened_generation s)
+
+-- the same, from the opening of the disk that was handed in
+abbrev pub IsRewritten : {D : Type 0} → (D → Option Sides) → D → D → Knows → Type 0
+IsRewritten seen handed disk k = (s : Sides) → seen handed ≡ Some s → IsWrittenFrom seen (opened_writing s) disk k
 
 -- A shared hall of the disk's world was made, and links were served in a loop up to an end; then it was retired. The server's seat has seen
 -- a legal history, and its own entries are those of the serving, and the retirement.

@@ -10,9 +10,10 @@ ghost use Rattle.journal.specs.declared.openings.OpenFault.TheVariants as fault_
 ghost use Rattle.log_record.specs.Readings.{Damaged};
 ghost use Rattle.replay_run.specs.HandedBack.{IsBackAt, IsBackUnopened};
 ghost use Rattle.shared_hall.specs.Cores.{tells};
-ghost use Rattle.shared_hall.specs.Seats.{IsOf, handed_of, knows_of};
+ghost use Rattle.shared_hall.specs.Seats.{IsOf, first_writing, handed_of, knows_of};
 ghost use Rattle.serve_run.specs.Words.{asked_of};
-ghost use Rattle.tile_top.specs.Fronts.{EndsBehind, Fronts, IsCounted, IsDue, IsFirst, IsLeft, IsRetired, ServesFront};
+ghost use Rattle.tile_top.specs.Fronts.{EndsBehind, Fronts, IsCounted, IsDue, IsFirst, IsLeft, IsRetired, IsRewritten, IsWrittenFrom};
+ghost use Rattle.tile_top.specs.Fronts.{ServesFront, opened_writing};
 
 use crate::halt_ends::end_halt;
 use crate::tops::Ended;
@@ -35,6 +36,7 @@ fn open_hall<D: Disk + Drop>(
     ensures seat { IfOk result (λ r. IsOf D.crashes D.seen D.images D.moment D.left_since D.faults r.0 r.1) }
     ensures first { IfOk result (λ r. IsFirst (D.seen disk) (knows_of r.1)) }
     ensures handed { IfOk result (λ r. handed_of r.0 ≡ disk) }
+    ensures writing { (s : Sides) → D.seen disk ≡ Some s → IfOk result (λ r. first_writing r.0 ≡ opened_writing s) }
     ensures damaged { (s : Sides) → D.seen disk ≡ Some s
         → IfErr result (λ u. (side : Side) (place : ℕ) → u.why ≡ fault_of.Damaged side place → Damaged s side place) }
     ensures back { IfErr result
@@ -88,6 +90,9 @@ fn retire_hall<K: Sink, D: Disk + Drop, R: Wait>(
     ensures some { is_some result.front ≡ true }
     ensures safe { tells D.crashes D.seen (handed_of hall.now) ≡ true
         → IfSome result.front (λ last. IfSome result.disk (λ d. IsLeft D.images D.left_since d (knows_of last))) }
+    ensures rewritten { tells D.crashes D.seen (handed_of hall.now) ≡ true
+        → IfSome result.front
+        (λ last. IfSome result.disk (λ d. IsWrittenFrom D.seen (first_writing hall.now) d (knows_of last))) }
     ensures given { IfSome result.front (λ last. IsDue (knows_of last).seen → is_some result.disk ≡ true) }
     ensures counted { (handed : ℕ) → min handed most_count ≤ (knows_of seat).opening.count
         → IfSome result.front (λ last. IfSome result.disk (λ d. IsCounted handed (D.faults d) (knows_of last))) }
@@ -136,6 +141,9 @@ where
         (K.held sink.old) (K.held sink.new) result.status) }
     ensures safe { tells D.crashes D.seen (handed_of hall.now) ≡ true
         → IfSome result.front (λ last. IfSome result.disk (λ d. IsLeft D.images D.left_since d (knows_of last))) }
+    ensures rewritten { tells D.crashes D.seen (handed_of hall.now) ≡ true
+        → IfSome result.front
+        (λ last. IfSome result.disk (λ d. IsWrittenFrom D.seen (first_writing hall.now) d (knows_of last))) }
     ensures some { is_some result.front ≡ true }
     ensures given { IfSome result.front (λ last. IsDue (knows_of last).seen → is_some result.disk ≡ true) }
     ensures counted { (handed : ℕ) → min handed most_count ≤ (knows_of seat).opening.count
@@ -181,6 +189,8 @@ where
         (K.held sink.old) (K.held sink.new) result.status (option_map knows_of result.front) }
     ensures safe { tells D.crashes D.seen disk ≡ true
         → IfSome result.front (λ last. IfSome result.disk (λ d. IsLeft D.images D.left_since d (knows_of last))) }
+    ensures rewritten { tells D.crashes D.seen disk ≡ true
+        → IfSome result.front (λ last. IfSome result.disk (λ d. IsRewritten D.seen disk d (knows_of last))) }
     ensures handed { result.front ≡ None → is_some result.disk ≡ true }
     ensures later { result.front ≡ None → IfSome result.disk (λ d. D.faults disk ≤ D.faults d) }
     ensures disk { result.front ≡ None → result.status ≡ 5

@@ -17,7 +17,7 @@ ghost use Rattle.shared_hall.specs.Seats.{knows_of};
 ghost use Rattle.tile_top.specs.Tops.{IsReplay, IsCheck, IsUsage, Replays};
 ghost use Rattle.tile_top.specs.Backtests.{Backtests, IsBacktest, IsReadAlone};
 ghost use Rattle.tile_top.specs.Checks.{Checks};
-ghost use Rattle.tile_top.specs.Fronts.{Fronts, IsCounted, IsDue, IsLeft};
+ghost use Rattle.tile_top.specs.Fronts.{Fronts, IsCounted, IsDue, IsLeft, IsRewritten};
 
 use crate::backtests::backtest_disk;
 use crate::checks::check_disk;
@@ -130,7 +130,9 @@ pub fn out_of_memory<K: Sink, D: Disk + Drop>(sink: &mut K) -> Ended<D>
 /// the run, which holds all that was acknowledged by then, that is all before the last frame that was given, and before
 /// the last step of rewriting that was answered Ok. Where the hall's retirement was answered Ok, as at status 0,
 /// whatever a crash leaves of the disk is the world after the whole run. Where the disk tells no crashes, it holds at
-/// status 0 the world that the script left.
+/// status 0 the world that the script left. At which moment of the disk each event ended, this does not say: the source
+/// and the sink have no moments, so nothing that is seen from outside stands before or behind one. The clause on each
+/// call of the core says it, by the disk's moment behind that call, and a body that put off its syncs is refused there.
 ///
 /// With `check`. Status 0: the line of the disk's world was written, with the generation of the side in use of the disk
 /// handed back, which holds that world; and that disk is safe for that world. At each status at which it was opened, at
@@ -138,22 +140,26 @@ pub fn out_of_memory<K: Sink, D: Disk + Drop>(sink: &mut K) -> Ended<D>
 ///
 /// With `serve`. All entries that the server's seat has seen are a legal history that opens with the disk's world, and
 /// its own are those of the loop's steps, in their order: a tick and as many steps of rewriting as the loop makes
-/// behind each; the entering of a session of the server's own, which asks for AOFSHRINK, and its removal, or an
-/// entering for that which was refused; the entering of a session for a caller; the calls of a session in one turn; a
-/// take of a session; its closing; its removal; then, where a tick or a step of rewriting brought the end, a tick and
-/// the steps up to that one, or, where the answer to AOFSHRINK brought it, the entering, the asking and the removal;
-/// and then the retirement. The door was opened at the address that was asked for; where it could not be, it stands
-/// open where it did before. Each caller who came bears the next number of the door, and is the caller of exactly one
-/// link. No link is left open: the one that waits, where it tells which links were shut, tells these behind those
-/// before, each as it was then, but for those for whose telling it had no memory. Of each link one of these holds. No
-/// session was entered for it; or one was, and was removed at once, for want of memory or because the link could not be
-/// watched, which comes only where the one that waits has failed; then the link is as it came. Or it was served as one
-/// session: the calls of that session are those of the requests of the bytes that were read of the link, in order, each
-/// once but again while it is answered Full, up to an end that is named; and what the link was written is what the
-/// takes of that session gave, in order: all of it where the takes came to an end, and a first part of it where the
-/// link failed or was cut early, where memory ran out, or where the loop ended first. That the server dismisses a link,
-/// that is ends its asking by itself, or cuts it early comes only where there is an idle limit, or where the end may be
-/// asked for and was.
+/// behind each; a tick, or a tick and steps, up to one that wanted memory; the entering of a session of the server's
+/// own, which asks for AOFSHRINK, and its removal, or an entering for that which was refused; the entering of a session
+/// for a caller; the calls of a session in one turn; a take of a session; its closing; its removal; then, where a tick
+/// or a step of rewriting brought the end, a tick and the steps up to that one, or, where the answer to AOFSHRINK
+/// brought it, the entering, the asking and the removal; and then the retirement. For AOFSHRINK the server asks by
+/// itself only where PERCENT is not 0, the log is not being rewritten, and the last step told that it has 64 MiB at
+/// least and has grown by so many per cent of what the first step told, or the one that ended the last rewriting; what
+/// a step tells is a hint of the hall. Want of memory in a tick or a step behind it brings the end only where each tick
+/// for ten seconds wanted some, by the moments of the ticks. The door was opened at the address that was asked for;
+/// where it could not be, it stands open where it did before. Each caller who came bears the next number of the door,
+/// and is the caller of exactly one link. No link is left open: the one that waits, where it tells which links were
+/// shut, tells these behind those before, each as it was then, but for those for whose telling it had no memory. Of
+/// each link one of these holds. No session was entered for it; or one was, and was removed at once, for want of memory
+/// or because the link could not be watched, which comes only where the one that waits has failed; then the link is as
+/// it came. Or it was served as one session: the calls of that session are those of the requests of the bytes that were
+/// read of the link, in order, each once but again while it is answered Full, up to an end that is named; and what the
+/// link was written is what the takes of that session gave, in order: all of it where the takes came to an end, and a
+/// first part of it where the link failed or was cut early, where memory ran out, or where the loop ended first. That
+/// the server dismisses a link, that is ends its asking by itself, or cuts it early comes only where there is an idle
+/// limit, or where the end may be asked for and was.
 ///
 /// Status 0: the door told its end, or N callers came, or the end may be asked for and was, and all links went on to
 /// their own ends, or to those by which the server dismissed or cut them; the bytes written are the lines `listening
@@ -163,7 +169,9 @@ pub fn out_of_memory<K: Sink, D: Disk + Drop>(sink: &mut K) -> Ended<D>
 /// wanted, 4 where the sink failed. Where the disk tells what it holds and what a crash may leave, the disk that is
 /// handed back is safe for all that the seat has seen. Where the retirement was not answered Stopped, as at status 0,
 /// or is the only one that the seat has seen, the disk is handed back, and its count of faults is the one that the
-/// history ends with; where it was answered Ok, whatever a crash leaves of it is the world of all of that.
+/// history ends with; where it was answered Ok, whatever a crash leaves of it is the world of all of that, and an
+/// opening finds there a log of the generation to which the history's rewritings lead, one more for each that came to
+/// its end.
 ///
 /// With `backtest`. Status 11 comes exactly where what the source had left is not the text of one request that reads as
 /// a SETCHAN with an area given in its words, or a NEARBY with POINT; the disk is then left alone. Status 0: the source
@@ -225,6 +233,8 @@ where
         (K.held sink.old) (K.held sink.new) result.status (option_map knows_of result.front)) }
     ensures safe { tells D.crashes D.seen disk ≡ true
         → IfSome result.front (λ last. IfSome result.disk (λ d. IsLeft D.images D.left_since d (knows_of last))) }
+    ensures rewritten { tells D.crashes D.seen disk ≡ true
+        → IfSome result.front (λ last. IfSome result.disk (λ d. IsRewritten D.seen disk d (knows_of last))) }
     ensures given { IfSome result.front (λ last. IsDue (knows_of last).seen → is_some result.disk ≡ true) }
     ensures counted { IfSome result.front
         (λ last. IfSome result.disk (λ d. IsCounted (D.faults disk) (D.faults d) (knows_of last))) }

@@ -7,6 +7,6 @@ use Rattle.serve_run.proofs.loops.serve_with.Goals as goal
 
 pub returns-in-Some-end-clause-turn : goal.returns-in-Some-end-clause-turn
 returns-in-Some-end-clause-turn g c = λ old h.
-    subst (λ (r : Option ServeEnd). Leaves (g.C.Clock.told c.args.clock.now) c.args.terms old (loop_state (g.H.HallApi.knows c.round-end.new.seat)
+    subst (λ (r : Option ServeEnd). Leaves (g.C.Clock.told c.args.clock.now) c.args.terms old c.round-end.new.work.pace.tending (loop_state (g.H.HallApi.knows c.round-end.new.seat)
     (g.D.ReadyDoor.shows c.round-end.new.door) (g.W.WaitForLinks.shows c.round-end.new.wait) c.round-end.new.table.items c.round-end.new.counts.joined
     c.round-end.new.counts.starved c.round-end.new.counts.is_over true) r) c.in-Some-end.is (c.round-end.ensures.turn old (c.loop.invariant.keeps old h))

@@ -11,4 +11,4 @@ returns-clause-steps g c = λ told timely.
     c.calls-asked.result.2 c.requires.ready c.move_asked-asked.ensures.moved c.move_asked-asked.ensures.bare c.calls-asked.ensures.back c.calls-asked.ensures.count
     (subst (λ (n : ℕ). AddsNamed (call_acts n c.args.moment c.move_asked-asked.result c.calls-asked.result.0.served c.calls-asked.result.0.end) c.calls-asked.result.2
     (g.H.HallApi.knows c.args.seat.now) (g.H.HallApi.knows c.calls-asked.new.seat)) c.number.ensures c.calls-asked.ensures.entries)
-    c.on_answered.ensures.answered c.on_answered.ensures.demand
+    c.on_answered.ensures.answered c.on_answered.ensures.fenced c.on_answered.ensures.demand

@@ -10,7 +10,7 @@ returns-in-Some-clause-rewritten g c =
 
 pub returns-then-not-told-clause-rewritten : goal.returns-then-not-told-clause-rewritten
 returns-then-not-told-clause-rewritten g c =
-    rewrote_some (g.H.HallApi.knows c.args.seat.now) (g.H.HallApi.knows c.step_rewrite-rewritten.new.seat) (c.loop.counter + 1) (omega arith)
+    rewrote_some (g.H.HallApi.knows c.args.seat.now) (g.H.HallApi.knows c.step_rewrite-rewritten.new.seat) (c.loop.counter + 1) c.step_rewrite-rewritten.result.1 (omega arith)
     (omega (arith, c.loop-test.true, c.requires.few.1))
     (rewrote_next (g.H.HallApi.knows c.args.seat.now) (g.H.HallApi.knows c.loop.seat) (g.H.HallApi.knows c.step_rewrite-rewritten.new.seat) c.loop.counter
     c.step_rewrite-rewritten.result.0 (sym c.serve_end.ensures ∙ c.in_default.is) c.loop.invariant.made c.step_rewrite-rewritten.ensures.entry)

@@ -7,7 +7,7 @@ use Rattle.replay_run.specs.BackLaws.{given_up}
 use Rattle.shared_hall.specs.Cores.{IsOpenedOn}
 use Rattle.shared_hall.specs.OpeningLaws.{is_opened_on}
 use Rattle.tile_top.specs.Fronts.{IsFirst}
-use Rattle.tile_top.proofs.Fronting.{count_later}
+use Rattle.tile_top.proofs.Fronting.{count_later, opened_as}
 use Rattle.tile_top.proofs.serves.open_hall.Goals as goal
 
 pub new-requires : goal.new-requires
@@ -28,6 +28,11 @@ returns-in-Ok-new-clause-first g c =
 pub returns-in-Ok-new-clause-begun : goal.returns-in-Ok-new-clause-begun
 returns-in-Ok-new-clause-begun g c = subst (λ (k : Knows). min (g.D.Disk.faults c.args.disk) most_count ≤ k.opening.count) (sym c.in-Ok-new.ensures.knows)
     (count_later (g.D.Disk.faults c.args.disk) _ c.in-Ok.ensures.later)
+
+pub returns-in-Ok-new-clause-writing : goal.returns-in-Ok-new-clause-writing
+returns-in-Ok-new-clause-writing g c s told =
+    let e = c.in-Ok.ensures in
+    opened_as _ c.in-Ok.core s c.in-Ok-new.ensures.opened e.idle (e.generation s told)
 
 pub returns-in-Err-new-clause-back : goal.returns-in-Err-new-clause-back
 returns-in-Err-new-clause-back g c =

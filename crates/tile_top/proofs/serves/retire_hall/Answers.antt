@@ -1,7 +1,7 @@
 use Rattle.std.proofs.Common.{ap}
 use Rattle.shared_hall.specs.Turns.{retire_outcome}
-use Rattle.shared_hall.specs.Seats.{knows_of}
-use Rattle.tile_top.proofs.Fronting.{behind_as, counts_as, given_left, given_well}
+use Rattle.shared_hall.specs.Seats.{first_writing, knows_of}
+use Rattle.tile_top.proofs.Fronting.{behind_as, counts_as, given_left, given_well, given_written}
 use Rattle.tile_top.proofs.serves.retire_hall.Goals as goal
 
 pub returns-in-Some-clause-front : goal.returns-in-Some-clause-front
@@ -32,3 +32,9 @@ pub returns-in-Some-clause-counted : goal.returns-in-Some-clause-counted
 returns-in-Some-clause-counted g c handed begun =
     let r = c.retire-given.ensures in
     counts_as g.D.Disk.faults handed (knows_of c.args.seat) (knows_of c.retire-given.new.seat) c.retire-given.result (c.in-Some.disk, c.in-Some.answer) c.in-Some.is r.entry.opening begun r.counted
+
+pub returns-in-Some-clause-rewritten : goal.returns-in-Some-clause-rewritten
+returns-in-Some-clause-rewritten g c told =
+    let r = c.retire-given.ensures in
+    given_written g.D.Disk.seen (first_writing c.args.hall.now) (knows_of c.args.seat) (knows_of c.retire-given.new.seat) c.retire-given.result (c.in-Some.disk, c.in-Some.answer)
+    c.in-Some.is r.entry (r.generation told)

@@ -1,7 +1,8 @@
-use Rattle.std.proofs.Common.{refl}
+use Rattle.std.proofs.Common.{◌≡◌, true, refl, sym, subst}
 use Rattle.std.specs.Prelude.{option_map}
-use Rattle.shared_hall.specs.Seats.{knows_of}
-use Rattle.tile_top.proofs.Fronting.{damaged_as, fronts_of, mapped_some, unspent_as}
+use Rattle.shared_hall.specs.Cores.{tells}
+use Rattle.shared_hall.specs.Seats.{first_writing, knows_of}
+use Rattle.tile_top.proofs.Fronting.{damaged_as, fronts_of, mapped_some, unspent_as, written_as}
 use Rattle.tile_top.proofs.serves.serve_hall.Goals as goal
 
 pub returns-in-Ok-clause-serves : goal.returns-in-Ok-clause-serves
@@ -20,3 +21,9 @@ returns-in-Err-clause-serves g c = record {
 
 pub returns-in-Ok-clause-counted : goal.returns-in-Ok-clause-counted
 returns-in-Ok-clause-counted g c = c.serve_on.ensures.counted (g.D.Disk.faults c.args.disk) c.in-Ok.ensures.begun
+
+pub returns-in-Ok-clause-rewritten : goal.returns-in-Ok-clause-rewritten
+returns-in-Ok-clause-rewritten g c told =
+    let on = c.serve_on in
+    written_as knows_of g.D.Disk.seen c.args.disk (first_writing c.in-Ok.hall) on.result.front on.result.disk c.in-Ok.ensures.writing
+    (on.ensures.rewritten (subst (λ (d : g.row.D.Denot). tells g.D.Disk.crashes g.D.Disk.seen d ≡ true) (sym c.in-Ok.ensures.handed) told))
