@@ -1,8 +1,10 @@
 //! A case: what is asked for, over what, and what has to come of it.
 
+use crate::bent_sides::Bend;
 use crate::builders::Builder;
 use crate::faults::Fault;
 use crate::looks::Look;
+use crate::stream_faults::Stream;
 use byte_text::Text;
 use outside::{CallerScript, DoorScript, Named, Side, Visit};
 use std::alloc::Global;
@@ -20,6 +22,12 @@ pub(crate) enum Play {
     DiskFaults,
     /// The program's one call plays the script, and the disk fails at each call in turn.
     ReplayFaults,
+    /// The program's one call plays the script, and each call of a stream fails in turn.
+    StreamFaults(Stream),
+    /// The program's one call serves the callers, and the disk fails at each call in turn.
+    ServeFaults,
+    /// The program's one call is asked for what the words say, over a side that is bent at each place in turn.
+    Bent(Side, Bend),
     /// The disk is opened, fails at each call of the opening in turn, and is crashed at each moment of it.
     Upgrade,
     /// A core of an empty world plays the script, and the nodes that it visits are counted.

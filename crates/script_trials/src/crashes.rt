@@ -33,15 +33,15 @@ fn push_wrong(out: &mut Text, moment: u64, pick: u64, world: &Text) -> Result<()
     push_line(out, world.bytes())
 }
 
-// What a script may leave: the worlds behind some of its changes, at least so many and at most so many.
+/// What a script may leave: the worlds behind some of its changes, at least so many and at most so many.
 #[derive(Clone, Copy)]
-struct Between {
-    least: usize,
-    most: usize,
+pub(crate) struct Between {
+    pub(crate) least: usize,
+    pub(crate) most: usize,
 }
 
-// A crash at this moment, whatever it leaves, is opened to a world that there may be. Others are told of.
-fn crash(
+/// A crash at this moment, whatever it leaves, is opened to a world that there may be. Others are told of.
+pub(crate) fn crash(
     alloc: Global,
     out: &mut Text,
     script: &str,

@@ -1,8 +1,10 @@
 //! The lines of a case.
 
+use crate::bent_sides::Bend;
 use crate::cases::{Case, Over, Play};
 use crate::faults::Fault;
 use crate::looks::{Look, side_of};
+use crate::stream_faults::Stream;
 use crate::texts::{push_escaped, push_line, push_request, push_text};
 use byte_text::{Text, push_u64};
 use log_sides::NEWEST;
@@ -49,6 +51,17 @@ fn frame_of(alloc: Global, frame: &str) -> Result<Text, Fault> {
     }
 }
 
+// A case that is played over a side that is bent.
+fn bent_of(how: &str) -> Result<Play, Fault> {
+    let (bend, letter) = split(how)?;
+    let bend = match bend {
+        "cut" => Bend::Cut,
+        "turned" => Bend::Turned,
+        _ => return Err(Fault::Line),
+    };
+    Ok(Play::Bent(side_of(letter)?, bend))
+}
+
 // How a case is played.
 fn play_of(how: &str) -> Result<Play, Fault> {
     match how {
@@ -56,11 +69,14 @@ fn play_of(how: &str) -> Result<Play, Fault> {
         "crashes" => Ok(Play::Crashes),
         "disk faults" => Ok(Play::DiskFaults),
         "replay faults" => Ok(Play::ReplayFaults),
+        "source faults" => Ok(Play::StreamFaults(Stream::Source)),
+        "sink faults" => Ok(Play::StreamFaults(Stream::Sink)),
+        "serve faults" => Ok(Play::ServeFaults),
         "upgrade" => Ok(Play::Upgrade),
         "visits" => Ok(Play::Visits),
         "drive" => Ok(Play::Drive),
         "workload" => Ok(Play::Workload),
-        _ => Err(Fault::Line),
+        _ => bent_of(how),
     }
 }
 

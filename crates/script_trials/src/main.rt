@@ -35,6 +35,7 @@
 //! | `length S N`, `under S N` | the side has so many bytes at the end, or fewer |
 #![tactic(auto)]
 
+mod bent_sides;
 mod builders;
 mod cases;
 mod cores;
@@ -48,6 +49,8 @@ mod openings;
 mod players;
 mod plays;
 mod replay_faults;
+mod serve_faults;
+mod stream_faults;
 mod texts;
 mod turns;
 mod upgrades;

@@ -1,5 +1,6 @@
 //! Cases are played, and what comes of them is written down.
 
+use crate::bent_sides::play_bent;
 use crate::cases::{Case, Over, Play};
 use crate::cores::{play_drive, play_visits};
 use crate::crashes::{play_crashes, play_disk_faults};
@@ -8,6 +9,8 @@ use crate::faults::Fault;
 use crate::looks::push_seen;
 use crate::openings::play_opening;
 use crate::replay_faults::play_replay_faults;
+use crate::serve_faults::play_serve_faults;
+use crate::stream_faults::play_stream_faults;
 use crate::texts::{push_escaped, push_last_line, push_line};
 use crate::upgrades::play_upgrade;
 use crate::workloads::play_workload;
@@ -20,6 +23,12 @@ use std::alloc::Global;
 use std::sync::Wait;
 use std::thread::Threads;
 use tile_top::{Ended, top};
+
+/// So many bytes of the script are read at once.
+pub(crate) const READ_AT_ONCE: usize = 7;
+
+/// So many bytes of the output are written at once.
+pub(crate) const WRITTEN_AT_ONCE: usize = 5;
 
 /// What came of a case, and the disk that it left.
 #[derive(Drop)]
@@ -112,8 +121,8 @@ fn push_told(
     Ok(())
 }
 
-/// Asks for what the words say: the script is read in pieces of 7 bytes, and its output is written in pieces of 5. How
-/// it ended, what was written, and what each caller was.
+/// Asks for what the words say: the script is read and its output written in small pieces. How it ended, what was
+/// written, and what each caller was.
 pub(crate) fn asked<R: Wait + Threads + Sync>(
     rt: &R,
     alloc: Global,
@@ -123,8 +132,8 @@ pub(crate) fn asked<R: Wait + Threads + Sync>(
 ) -> Result<(Ended<MemoryDisk>, Text), Fault> {
     let fails = &case.fails;
     let script = case.script.bytes().to_vec(alloc)?;
-    let mut source = BytesSource::new(script, 7, fails.source.as_slice().to_vec(alloc)?);
-    let mut sink = BytesSink::new(alloc, 5, fails.sink.as_slice().to_vec(alloc)?);
+    let mut source = BytesSource::new(script, READ_AT_ONCE, fails.source.as_slice().to_vec(alloc)?);
+    let mut sink = BytesSink::new(alloc, WRITTEN_AT_ONCE, fails.sink.as_slice().to_vec(alloc)?);
     let mut door = door_of(alloc, case)?;
     let mut wait = wait_of(alloc, case)?;
     let clock = HandClock::at(7);
@@ -252,6 +261,12 @@ pub(crate) fn play<R: Wait + Threads + Sync>(
         Play::Crashes => without_disk(play_crashes(alloc, case)?),
         Play::DiskFaults => without_disk(play_disk_faults(alloc, case)?),
         Play::ReplayFaults => without_disk(play_replay_faults(rt, alloc, case)?),
+        Play::StreamFaults(stream) => without_disk(play_stream_faults(rt, alloc, case, stream)?),
+        Play::ServeFaults => Ok(Came {
+            text: play_serve_faults(rt, alloc, case)?,
+            disk: None,
+        }),
+        Play::Bent(side, bend) => without_disk(play_bent(rt, alloc, case, side, bend)?),
         Play::Upgrade => without_disk(play_upgrade(alloc, case)?),
         Play::Visits => without_disk(play_visits(alloc, case)?),
         Play::Drive => without_disk(play_drive(alloc, case)?),

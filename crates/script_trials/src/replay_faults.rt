@@ -1,13 +1,14 @@
 //! A script that the program's one call plays over a disk that fails at each call in turn.
 
 use crate::cases::Case;
-use crate::disks::disk_failing;
+use crate::crashes::{CHOICES, choice};
+use crate::disks::{crashed, disk_failing};
 use crate::faults::Fault;
 use crate::plays::{asked, words_of};
 use crate::texts::push_line;
 use crate::turns::{MOST_CALLS, push_made};
 use byte_text::{Text, push_u64};
-use outside::MemoryDisk;
+use outside::{Disk, MemoryDisk};
 use std::alloc::Global;
 use std::sync::Wait;
 use std::thread::Threads;
@@ -51,7 +52,25 @@ fn asked_by<R: Wait + Threads + Sync>(
     asked(rt, alloc, words.as_slice(), case, disk)
 }
 
-// Looks at a disk that failed: what was acknowledged stands, and no more than was asked for. Another thing is told of.
+// Looks at a disk: what was acknowledged stands, and no more than was asked for. Another thing is told of.
+fn check<R: Wait + Threads + Sync>(
+    rt: &R,
+    alloc: Global,
+    out: &mut Text,
+    case: &Case,
+    disk: MemoryDisk,
+    acknowledged: u64,
+) -> Result<(), Fault> {
+    let (ended, text) = asked_by(rt, alloc, "check", case, disk)?;
+    if ended.status != 0 || !has_objects(alloc, text.bytes(), acknowledged)? {
+        push_u64(out, acknowledged)?;
+        push_line(out, b" acknowledged, and then")?;
+        out.push(text.bytes())?;
+    }
+    Ok(())
+}
+
+// Looks at a disk that failed, and at whatever a crash leaves of it then.
 fn look<R: Wait + Threads + Sync>(
     rt: &R,
     alloc: Global,
@@ -63,13 +82,11 @@ fn look<R: Wait + Threads + Sync>(
     let Some(disk) = disk else {
         return push_line(out, b"no disk");
     };
-    let (ended, text) = asked_by(rt, alloc, "check", case, disk)?;
-    if ended.status != 0 || !has_objects(alloc, text.bytes(), acknowledged)? {
-        push_u64(out, acknowledged)?;
-        push_line(out, b" acknowledged, and then")?;
-        out.push(text.bytes())?;
+    for pick in 0..CHOICES {
+        let image = crashed(&disk, disk.moment(), choice(pick))?;
+        check(rt, alloc, out, case, image, acknowledged)?;
     }
-    Ok(())
+    check(rt, alloc, out, case, disk, acknowledged)
 }
 
 // Plays the script on a disk whose call of this number fails, and looks at what is left. Whether the call was made.
