@@ -27,7 +27,7 @@ mod writes;
 
 pub use clocks::{Clock, HandClock, MAX_MOMENT};
 pub use disks::Disk;
-pub use doors::{Caller, ReadyDoor};
+pub use doors::{Caller, Kinds, OpenPort, Port, ReadyDoor};
 pub use durable_writes::write_durably;
 pub use failures::Failed;
 pub use links::{Got, ReadyLink, Sent};

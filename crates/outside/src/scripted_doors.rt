@@ -1,11 +1,11 @@
 //! A door in memory, which a script drives.
 
 ghost use Rattle.std.specs.Prelude.{◌≡◌, None, Some, true, IsErr, IfOk};
-ghost use Rattle.outside.specs.Doors.{DoorFails, Opens, Accepts};
+ghost use Rattle.outside.specs.Doors.{DoorFails, Opens, Accepts, opened_at};
 ghost use Rattle.outside.specs.LinkScripts.{later, shown};
 ghost use Rattle.outside.specs.DoorScripts.{Visited, CallerBy};
 
-use crate::doors::{Caller, ReadyDoor};
+use crate::doors::{Caller, OpenPort, Port, ReadyDoor};
 use crate::failures::Failed;
 use crate::scripted_links::{CallerScript, ScriptedLink};
 use std::alloc::Global;
@@ -40,7 +40,7 @@ pub struct ScriptedDoor {
     visits: VecDeque<Visit>,
     stays: bool,
     opens: bool,
-    addr: Option<Vec<u8>>,
+    opened: Option<OpenPort>,
     links: u64,
     ends: u64,
     faults: u64,
@@ -53,7 +53,7 @@ impl Drop for ScriptedDoor {
             visits: _,
             stays: _,
             opens: _,
-            addr: _,
+            opened: _,
             links: _,
             ends: _,
             faults: _,
@@ -62,7 +62,6 @@ impl Drop for ScriptedDoor {
 }
 
 impl Model for ScriptedDoor {
-    ghost use Rattle.std.specs.Prelude.{option_map};
     ghost use Rattle.outside.specs.DoorScripts.{Visited};
 
     ghost Value = { Visited };
@@ -72,7 +71,7 @@ impl Model for ScriptedDoor {
       stays = d.stays;
       opens = d.opens;
       state = record {
-        addr = option_map (λ bytes. bytes.items) d.addr;
+        opened = d.opened;
         links = d.links;
         ends = d.ends;
         faults = d.faults;
@@ -88,7 +87,7 @@ impl ScriptedDoor {
               visits = script.visits.items;
               stays = script.stays;
               opens = script.opens;
-              state = record { addr = None; links = 0; ends = 0; faults = 0 };
+              state = record { opened = None; links = 0; ends = 0; faults = 0 };
             } }
     {
         ScriptedDoor {
@@ -96,7 +95,7 @@ impl ScriptedDoor {
             visits: VecDeque::from(script.visits),
             stays: script.stays,
             opens: script.opens,
-            addr: None,
+            opened: None,
             links: 0,
             ends: 0,
             faults: 0,
@@ -114,25 +113,25 @@ impl ScriptedDoor {
 }
 
 impl ReadyDoor for ScriptedDoor {
-    ghost use Rattle.outside.specs.Doors.{DoorState, Opens, Accepts};
+    ghost use Rattle.outside.specs.Doors.{DoorState, Opens, Accepts, opened_at};
 
     type Link = ScriptedLink;
 
     ghost shows = { λ d. d.state };
 
     /// Where no memory is left for the address, it fails too.
-    fn listen(&mut self, addr: &str) -> Result<(), Failed>
-        ensures opens { Opens self.old.state self.new.state result addr.now }
+    fn listen(&mut self, port: &Port<'_>) -> Result<(), Failed>
+        ensures opens { Opens self.old.state self.new.state result (opened_at port.now) }
         ensures can { IfOk result (λ _. self.old.opens ≡ true) }
         ensures same { self.new ≡ record self.old { state = self.new.state } }
     {
         if !self.opens {
             return Err(self.fail());
         }
-        let Ok(bytes) = addr.as_bytes().to_vec(self.alloc) else {
+        let Ok(opened) = OpenPort::of(self.alloc, port) else {
             return Err(self.fail());
         };
-        self.addr = Some(bytes);
+        self.opened = Some(opened);
         Ok(())
     }
 

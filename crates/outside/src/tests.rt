@@ -1,8 +1,8 @@
 //! Links, a door and one that waits, as scripts have them.
 
 use crate::{
-    Caller, CallerScript, DoorScript, Failed, Got, Move, Named, ReadyDoor, ReadyLink, ScriptedDoor,
-    ScriptedLink, ScriptedWait, Sent, Visit, WaitForLinks, Wake,
+    Caller, CallerScript, DoorScript, Failed, Got, Kinds, Move, Named, Port, ReadyDoor, ReadyLink,
+    ScriptedDoor, ScriptedLink, ScriptedWait, Sent, Visit, WaitForLinks, Wake,
 };
 use std::alloc::{AllocError, Global};
 use std::test::Fail;
@@ -21,6 +21,15 @@ fn script(
         reads: reads.to_vec(alloc)?,
         writes: writes.to_vec(alloc)?,
     })
+}
+
+// An address, with links of both kinds.
+fn port(addr: &str) -> Port<'_> {
+    Port {
+        addr,
+        kinds: Kinds::Both,
+        origins: "",
+    }
 }
 
 #[test]
@@ -85,7 +94,7 @@ fn callers_come_as_the_script_says(rt: HostRuntime) -> Result<(), Fail> {
             opens: true,
         },
     );
-    assert!(rt; door.listen("127.0.0.1:9851").is_ok());
+    assert!(rt; door.listen(&port("127.0.0.1:9851")).is_ok());
     let mut callers = Vec::new(alloc);
     let mut seen = Vec::new(alloc);
     for _ in 0..5u32 {
@@ -119,7 +128,7 @@ fn waits_name_whom_the_script_lists(rt: HostRuntime) -> Result<(), Fail> {
         },
     );
     let mut link = ScriptedLink::new(alloc, 0, script(alloc, b"", true, &[], &[])?);
-    assert!(rt; door.listen("here").is_err());
+    assert!(rt; door.listen(&port("here")).is_err());
     assert!(rt; wait.watch_door(&mut door).is_ok());
     assert!(rt; wait.watch(&mut link, 3).is_ok());
     for names in [
