@@ -139,7 +139,7 @@ module _ (told : Option ℕ) (terms : Terms) (old : Around) (t : Tending) (d : D
       through = λ is. through_push h.runs run (h.through refl) through is;
       removed = λ is. removed_push (h.steps ++ more) h.runs run (removed_on h.steps more h.owner (λ n none. spares n) h.runs h.gone (h.removed refl)) off_hall;
       fences = fences_quiet h.steps more quiet h.fences;
-      addr = h.addr;
+      opened = h.opened;
       door_ends = h.door_ends;
       over_cause = h.over_cause;
       door_later = h.door_later;
@@ -312,7 +312,7 @@ module _ (told : Option ℕ) (terms : Terms) (old : Around) (t : Tending) (d : D
             through = h.through;
             removed = λ g. removed_on h.steps step h.owner (λ m none. spared m) h.runs h.gone (h.removed g);
             fences = fences_quiet h.steps step (λ m. refl) h.fences;
-            addr = h.addr;
+            opened = h.opened;
             door_ends = h.door_ends;
             over_cause = h.over_cause;
             door_later = h.door_later;

@@ -228,7 +228,7 @@ module _ (told : Option ℕ) (terms : Terms) (old : Around) (t : Tending) (s : L
     through = λ is. let g = on is in through_push h.runs run (h.through g.0) g.2 g.1;
     removed = λ is. let g = on is in removed_push h.steps h.runs run (h.removed g.0) (g.3, g.4);
     fences = h.fences;
-    addr = h.addr;
+    opened = h.opened;
     door_ends = h.door_ends;
     over_cause = h.over_cause;
     door_later = h.door_later;

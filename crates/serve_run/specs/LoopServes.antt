@@ -4,6 +4,7 @@ use Rattle.std.specs.Io.KnownBytes.{Appends}
 use mathlib.Core.List.{IsPrefix}
 use Rattle.byte_text.specs.Names.{Bytes}
 use Rattle.outside.specs.Causes.{Rose}
+use Rattle.outside.specs.Doors.{OpenedAt}
 use Rattle.serve_run.specs.declared.tends.ServeEnd.{ServeEnd}
 use Rattle.serve_run.specs.declared.terms.Terms.{Terms}
 use Rattle.serve_run.specs.Ends.{IsEnd, memory_line, door_line}
@@ -15,16 +16,16 @@ use Rattle.serve_run.specs.Words.{Serve}
 abbrev pub terms_of : Serve → Terms
 terms_of s = record { limit = s.limit; idle = s.idle; shrink_at = s.shrink_at; until_end = s.until_end }
 
--- the same, with the door opened at an address
-abbrev pub opened_at : Bytes → Around → Around
-opened_at addr a = record a { door = record a.door { addr = Some addr } }
+-- the same, with the door opened so
+abbrev pub with_door : OpenedAt → Around → Around
+with_door at a = record a { door = record a.door { opened = Some at } }
 
 -- memory wanted before the door was opened, and nothing was done
 pub record IsUnbegunLoop (old new : Around) (held held' : Option Bytes) (status : ℕ) : Type 0 where
   pub same : new ≡ old
   pub ended : IsEnd held held' 7 memory_line status
 
--- the door could not be opened, and is opened at no other address than before
+-- the door could not be opened, and is opened as it was before
 pub record IsUnopenedLoop (old new : Around) (held held' : Option Bytes) (status : ℕ) : Type 0 where
   pub same : new ≡ record old { door = record old.door { faults = new.door.faults } }
   pub cause : Rose old.door.faults new.door.faults
@@ -32,26 +33,26 @@ pub record IsUnopenedLoop (old new : Around) (held held' : Option Bytes) (status
   pub ended : IsEnd held held' 8 door_line status
 
 -- the door was opened, and could not be watched, or the end of the server could not
-pub record IsUnwatchedLoop (addr : Bytes) (old new : Around) (held held' : Option Bytes) (status : ℕ) : Type 0 where
-  pub same : new ≡ record (opened_at addr old) { wait = record old.wait { faults = new.wait.faults } }
+pub record IsUnwatchedLoop (at : OpenedAt) (old new : Around) (held held' : Option Bytes) (status : ℕ) : Type 0 where
+  pub same : new ≡ record (with_door at old) { wait = record old.wait { faults = new.wait.faults } }
   pub cause : Rose old.wait.faults new.wait.faults
   pub later : old.wait.faults ≤ new.wait.faults
   pub ended : IsEnd held held' 8 door_line status
 
 -- the door was opened, and that could not be said
-pub record IsUntoldLoop (addr : Bytes) (old new : Around) (held held' : Option Bytes) (status : ℕ) : Type 0 where
-  pub same : new ≡ opened_at addr old
+pub record IsUntoldLoop (at : OpenedAt) (old new : Around) (held held' : Option Bytes) (status : ℕ) : Type 0 where
+  pub same : new ≡ with_door at old
   pub ended : status ≡ 4
-  pub part : (part : Bytes) × IsPrefix part (listening_line addr) × Appends held held' part
+  pub part : (part : Bytes) × IsPrefix part (listening_line at.addr) × Appends held held' part
 
 -- the door was opened, that was said, and links were served up to an end
 pub record IsServedLoop (told : Option ℕ) (s : Serve) (old new : Around) (held held' : Option Bytes) (status : ℕ) : Type 0 where
   pub between : Option Bytes
-  pub listening : Appends held between (listening_line s.addr)
+  pub listening : Appends held between (listening_line s.port.addr)
   pub joined : ℕ
   pub starved : ℕ
   pub end : ServeEnd
-  pub serves : ServesReady told (terms_of s) (opened_at s.addr old) new joined starved end
+  pub serves : ServesReady told (terms_of s) (with_door s.port old) new joined starved end
   pub finishes : Finishes end joined starved between held' status
 
 -- what the words ask for was done, as far as this says
@@ -59,6 +60,6 @@ abbrev pub ServesLoop : Option ℕ → Serve → Around → Around → Option By
 ServesLoop told s old new held held' status =
     IsUnbegunLoop old new held held' status
     ⊎ (IsUnopenedLoop old new held held' status
-    ⊎ (IsUnwatchedLoop s.addr old new held held' status
-    ⊎ (IsUntoldLoop s.addr old new held held' status
+    ⊎ (IsUnwatchedLoop s.port old new held held' status
+    ⊎ (IsUntoldLoop s.port old new held held' status
     ⊎ IsServedLoop told s old new held held' status)))

@@ -105,7 +105,7 @@ pub record Holds (told : Option ℕ) (terms : Terms) (old : Around) (t : Tending
   pub through : s.goes_on ≡ true → AreThrough runs
   pub removed : s.goes_on ≡ true → AreRemoved steps runs
   pub fences : FencesEnd steps
-  pub addr : s.around.door.addr ≡ old.door.addr
+  pub opened : s.around.door.opened ≡ old.door.opened
   pub door_ends : min old.door.ends most_count ≤ s.around.door.ends
   pub over_cause : s.is_over ≡ true → Rose old.door.ends s.around.door.ends
   pub door_later : old.door.faults ≤ s.around.door.faults

@@ -62,7 +62,7 @@ pub record ServesReady (told : Option ℕ) (terms : Terms) (old new : Around) (j
   pub starved_are : starved ≡ starved_of runs
   pub unwatched : WatchFaults (Rose old.wait.faults new.wait.faults) runs
   pub early : FateCauses (MayEnd terms new.wait.over) runs
-  pub addr : new.door.addr ≡ old.door.addr
+  pub opened : new.door.opened ≡ old.door.opened
   pub door_later : old.door.faults ≤ new.door.faults
   pub wait_later : old.wait.faults ≤ new.wait.faults
   pub removed : why ≡ end.Done → AreRemoved steps runs

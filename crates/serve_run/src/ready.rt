@@ -2,6 +2,7 @@
 
 ghost use Rattle.std.specs.Prelude.{◌≡◌, ◌≤◌, ◌⊎◌};
 ghost use Rattle.outside.specs.Causes.{Rose};
+ghost use Rattle.outside.specs.Doors.{opened_at};
 ghost use Rattle.world_model.specs.Histories.{IsLegal};
 ghost use Rattle.serve_run.specs.Loops.{around};
 ghost use Rattle.serve_run.specs.LoopServes.{ServesLoop};
@@ -33,8 +34,8 @@ fn terms_of(words: &ServeWords<'_>) -> Terms
     }
 }
 
-/// Opens the door at the address, serves callers in a loop over readiness up to the limit or an end, and answers the
-/// status. Each link that came is shut at the end, and the one that waits shows each as it was then.
+/// Opens the door as the words ask for, serves callers in a loop over readiness up to the limit or an end, and answers
+/// the status. Each link that came is shut at the end, and the one that waits shows each as it was then.
 pub fn serve_ready<H: HallSplit, K: Sink, D: ReadyDoor, C: Clock, W: WaitForLinks<D>, R: Wait>(
     rt: &R,
     alloc: Global,
@@ -50,7 +51,7 @@ where
     D::Link: Drop,
     requires seat { H.HallApi.is_of hall.now seat.old }
     ensures serves { ServesLoop (C.told clock.now) (record {
-      addr = asked.entry.addr.now;
+      port = opened_at asked.entry.port;
       limit = asked.entry.limit;
       idle = asked.entry.idle;
       shrink_at = asked.entry.shrink_at;
@@ -73,10 +74,10 @@ where
 {
     // What the seat has seen is a legal history, also where no more is done.
     hall.seen(seat);
-    let Ok(line) = listening(alloc, asked.addr) else {
+    let Ok(line) = listening(alloc, asked.port.addr) else {
         return end(sink, 7, OUT_OF_MEMORY);
     };
-    if let Err(Failed) = door.listen(asked.addr) {
+    if let Err(Failed) = door.listen(&asked.port) {
         return end(sink, 8, DOOR_FAULT);
     }
     if let Err(Failed) = wait.watch_door(door) {

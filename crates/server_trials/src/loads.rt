@@ -1,35 +1,9 @@
-//! The words that ask for the workload, and its lines, against worked values.
+//! The last line of the workload, and the lines of its summary, against worked values.
 
 use byte_text::{Text, push_words};
-use load_command::{LoadWords, load_words};
 use std::alloc::Global;
 use std::test::Fail;
 use work_gen::{Role, Summary, Workload, push_summary};
-
-fn asked(alloc: Global, words: &[&str]) -> Result<Option<LoadWords>, Fail> {
-    let mut all: Vec<String> = Vec::new(alloc);
-    for word in words {
-        all.push(word.to_string(alloc)?)?;
-    }
-    Ok(load_words(alloc, all.as_slice())?)
-}
-
-#[test]
-fn the_least_and_the_greatest_numbers(rt: HostRuntime) -> Result<(), Fail> {
-    let alloc = rt.alloc();
-    let least = LoadWords {
-        commands: 1,
-        seed: 0,
-    };
-    let greatest = LoadWords {
-        commands: 1_000_000,
-        seed: u64::MAX,
-    };
-    let words = ["load", "1000000", "18446744073709551615"];
-    assert_eq!(rt; asked(alloc, &["load", "1", "0"])?, Some(least));
-    assert_eq!(rt; asked(alloc, &words)?, Some(greatest));
-    Ok(())
-}
 
 // Who asks for the last line of a workload, and for what.
 fn last_line(alloc: Global, commands: u32, seed: u64) -> Result<(Option<Role>, Text), Fail> {

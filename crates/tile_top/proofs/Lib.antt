@@ -1,3 +1,4 @@
+mod LoadApp
 pub mod Ends
 pub mod Fronting
 pub mod Wanting

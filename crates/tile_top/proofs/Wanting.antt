@@ -1,5 +1,5 @@
 -- What is told where memory wanted for reading the words, and of words that begin otherwise.
-use Rattle.std.proofs.Common.{◌≡◌, ℕ, Bool, true, false, true≢false, refl, sym, ap, ◌∙◌, subst, List, [], ◌∷◌, inl, inr}
+use Rattle.std.proofs.Common.{◌≡◌, ◌⊎◌, ℕ, Bool, true, false, true≢false, refl, sym, ap, ◌∙◌, subst, List, [], ◌∷◌, inl, inr}
 use Rattle.std.specs.Prelude.{Option, None, Some, option_map, option_and_then, IfSome, bytes_eq, codes, if◌then◌else◌}
 use Rattle.std.proofs.lemmas.Slice.Eq.{bytes_eq-Decides}
 use Rattle.byte_text.specs.Names.{Bytes}
@@ -8,33 +8,38 @@ use Rattle.outside.specs.Sides.{Sides}
 use Rattle.outside.specs.Waits.{WaitState}
 use Rattle.world_model.specs.Seats.{Knows}
 use Rattle.journal.specs.declared.openings.OpenFault.TheVariants as fault_of
-use Rattle.load_command.specs.Loads.{Loads}
-use Rattle.load_command.specs.Words.{load_app, load_in, load_of}
-use Rattle.load_command.specs.declared.words.LoadWords.{LoadWords}
+use Rattle.tile_top.specs.Loads.{Loads}
+use Rattle.tile_top.specs.LoadWords.{load_app, load_in, load_of}
+use Rattle.tile_top.specs.declared.load_words.LoadWords.{LoadWords}
 use Rattle.replay_run.specs.declared.halts.Halt.{Halt}
 use Rattle.replay_run.specs.declared.halts.Halt.TheVariants as halted
 use Rattle.serve_run.specs.Ends.{IsEnd, memory_line}
 use Rattle.serve_run.specs.Options.{begins_with, rows_taken}
-use Rattle.serve_run.specs.Words.{Serve, serve_of}
+use Rattle.serve_run.specs.Words.{Serve, serve_of, serve_taken, ws_taken}
 use Rattle.tile_top.specs.Fronts.{Fronts}
 use Rattle.tile_top.proofs.Fronting.{damaged_as, unspent_as}
 
 -- words that begin so are not another one alone
-pub not_alone : (words : List Bytes) (name first : Bytes) → bytes_eq name first ≡ false → begins_with first words ≡ true → words ≡ name ∷ [] → ⊥
-not_alone words name first apart begun is = true≢false (sym begun ∙ ap (begins_with first) is ∙ apart)
+pub not_alone : (begins : List Bytes → Bool) (words : List Bytes) (name : Bytes) → begins (name ∷ []) ≡ false → begins words ≡ true → words ≡ name ∷ [] → ⊥
+not_alone begins words name apart begun is = true≢false (sym begun ∙ ap begins is ∙ apart)
 
 -- words that ask to serve begin so, and ask for no workload
-begun_of : {A : Type 0} (b : Bool) (o : Option A) (x : A) → Some x ≡ (if b then o else None) → b ≡ true
-begun_of true o x is = refl
-begun_of false o x is = absurd (cc)
+serving_of : {A : Type 0} (serve ws : Bool) (o p : Option A) (x : A) → Some x ≡ (if serve then o else if ws then p else None) → (serve ≡ true) ⊎ (ws ≡ true)
+serving_of true ws o p x is = inl refl
+serving_of false true o p x is = inr refl
+serving_of false false o p x is = absurd (cc)
 
 begins_alone : (words : List Bytes) (name other : Bytes) → bytes_eq name other ≡ false → begins_with name words ≡ true → begins_with other words ≡ false
 begins_alone [] name other apart begun = refl
 begins_alone (word ∷ words) name other apart begun = ap (λ (w : Bytes). bytes_eq w other) ((bytes_eq-Decides word name).0 begun) ∙ apart
 
+no_load : (words : List Bytes) → (begins_with (codes "serve") words ≡ true) ⊎ (begins_with (codes "ws") words ≡ true) → begins_with (codes "load") words ≡ false
+no_load words (inl serve) = begins_alone words (codes "serve") (codes "load") refl serve
+no_load words (inr ws) = begins_alone words (codes "ws") (codes "load") refl ws
+
 pub loads_not : (words : List Bytes) (s : Serve) → Some s ≡ serve_of words → load_of words ≡ None
 loads_not words s is = ap (λ (b : Bool). if b then option_and_then load_in (rows_taken load_app words) else None)
-    (begins_alone words (codes "serve") (codes "load") refl (begun_of (begins_with (codes "serve") words) _ s is))
+    (no_load words (serving_of (begins_with (codes "serve") words) (begins_with (codes "ws") words) (serve_taken words) (ws_taken words) s is))
 
 -- whatever workload is told of, where none was asked for
 pub load_unasked : (words : List Bytes) (s : Serve) (held held' : Option Bytes) (status : ℕ) → Some s ≡ serve_of words → IfSome (load_of words) (λ w. Loads w held held' status)

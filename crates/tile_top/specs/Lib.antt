@@ -1,3 +1,5 @@
+pub mod LoadWords
+pub mod Loads
 pub mod Tops
 pub mod Checks
 pub mod Fronts

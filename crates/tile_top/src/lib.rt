@@ -4,6 +4,7 @@
 mod backtests;
 mod checks;
 mod halt_ends;
+mod load_words;
 mod loads;
 mod machines;
 mod replays;

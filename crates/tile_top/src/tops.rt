@@ -6,8 +6,8 @@ ghost use Rattle.outside.specs.Causes.{Rose};
 ghost use Rattle.outside.specs.Sides.{Sides};
 ghost use Rattle.serve_run.specs.Ends.{IsEnd, memory_line};
 ghost use Rattle.serve_run.specs.Words.{serve_of};
-ghost use Rattle.load_command.specs.Loads.{Loads};
-ghost use Rattle.load_command.specs.Words.{load_of};
+ghost use Rattle.tile_top.specs.Loads.{Loads};
+ghost use Rattle.tile_top.specs.LoadWords.{load_of};
 ghost use Rattle.replay_run.specs.Traces.{opens};
 ghost use Rattle.replay_run.specs.Standing.{IsSafeFor};
 ghost use Rattle.replay_run.specs.HandedBack.{HoldsWorld, IsBackAt};
@@ -21,11 +21,11 @@ ghost use Rattle.tile_top.specs.Fronts.{Fronts, IsCounted, IsDue, IsLeft, IsRewr
 
 use crate::backtests::backtest_disk;
 use crate::checks::check_disk;
+use crate::load_words::load_words;
 use crate::loads::load_core;
 use crate::replays::{Scripted, replay_script};
 use crate::serves::serve_hall;
 use byte_text::NoMemory;
-use load_command::load_words;
 use outside::{Clock, Disk, ReadyDoor, Sink, Source, WaitForLinks};
 use serve_run::{OUT_OF_MEMORY, end, serve_words};
 use shared_hall::HallSeat;
@@ -34,7 +34,7 @@ use std::sync::Wait;
 use std::thread::Threads;
 
 const USAGE: &[u8] =
-    b"usage: tile_server replay | check | load N SEED | serve ADDR [--sessions N] | backtest\n";
+    b"usage: tile_server replay | check | load N SEED | serve ADDR [--sessions N] | ws ADDR [--sessions N] | backtest\n";
 
 /// How the program ended.
 #[derive(Drop)]
@@ -87,19 +87,21 @@ pub fn out_of_memory<K: Sink, D: Disk + Drop>(sink: &mut K) -> Ended<D>
 
 /// Does what the words ask for, the words after the program's name: `replay` plays the script that the source gives on
 /// the world of the disk, and writes its output to the sink. `check` opens the disk, and writes what it has. `serve
-/// ADDR` opens the door at the address and serves callers in a loop on one hall of the disk's world, up to an end.
-/// `load N SEED` drives a core of its own with the generated workload of N commands, from 1 to 1,000,000, and writes
-/// its summary. `backtest` reads from the source which fence is asked for, and writes what it would have raised over
-/// the changes of the disk's log. Every other list of words is answered by a line on the usage and status 1. Nothing is
-/// read but with `replay` and `backtest`, and the disk is left alone but with all of these but `load`.
+/// ADDR` opens the door at the address and serves callers in a loop on one hall of the disk's world, up to an end; `ws
+/// ADDR` does so for WebSockets alone. `load N SEED` drives a core of its own with the generated workload of N
+/// commands, from 1 to 1,000,000, and writes its summary. `backtest` reads from the source which fence is asked for,
+/// and writes what it would have raised over the changes of the disk's log. Every other list of words is answered by a
+/// line on the usage and status 1. Nothing is read but with `replay` and `backtest`, and the disk is left alone but
+/// with all of these but `load`.
 ///
-/// The words behind `serve` and `load` are what `clap` takes of them, and each number is canonical. Options of `serve`
-/// stand in any order, before or behind ADDR, each at most once: with `--sessions N`, from 1 to 1,000,000,000, N
-/// callers are served at most; with `--idle SECONDS`, from 1 to 1,000,000,000, links that were idle for so long are
-/// dismissed; with `--shrink-at PERCENT`, from 0 to 1,000,000, the log is rewritten when it has grown by so many per
-/// cent, 100 where nothing is said, and never with 0; with `--until-stdin-ends` the end may be asked for, as the one
-/// that waits tells. Reading them takes memory: where that wants, the line of status 7 is written, also where the words
-/// ask for nothing, and nothing else is done.
+/// The words behind `serve`, `ws` and `load` are what `clap` takes of them, and each number is canonical. Options stand
+/// in any order, before or behind ADDR, each at most once: with `--sessions N`, from 1 to 1,000,000,000, N callers are
+/// served at most; with `--idle SECONDS`, from 1 to 1,000,000,000, links that were idle for so long are dismissed; with
+/// `--shrink-at PERCENT`, from 0 to 1,000,000, the log is rewritten when it has grown by so many per cent, 100 where
+/// nothing is said, and never with 0; with `--until-stdin-ends` the end may be asked for, as the one that waits tells;
+/// `--origin LIST` names the origins, with a comma between two, of pages that may open a WebSocket beside the server's
+/// own; with `serve ADDR --ws` the door takes links of both kinds. Reading them takes memory: where that wants, the
+/// line of status 7 is written, also where the words ask for nothing, and nothing else is done.
 ///
 /// Where a disk is opened. It begins with the world that the disk is recovered as, where it tells what it holds; else
 /// with some sound world. Status 6 comes exactly where its sides are damaged, and its line says where; 5 comes only
@@ -138,28 +140,29 @@ pub fn out_of_memory<K: Sink, D: Disk + Drop>(sink: &mut K) -> Ended<D>
 /// handed back, which holds that world; and that disk is safe for that world. At each status at which it was opened, at
 /// no moment might a crash have left anything but what it might have left before, or a log of that world.
 ///
-/// With `serve`. All entries that the server's seat has seen are a legal history that opens with the disk's world, and
-/// its own are those of the loop's steps, in their order: a tick and as many steps of rewriting as the loop makes
-/// behind each; a tick, or a tick and steps, up to one that wanted memory; the entering of a session of the server's
-/// own, which asks for AOFSHRINK, and its removal, or an entering for that which was refused; the entering of a session
-/// for a caller; the calls of a session in one turn; a take of a session; its closing; its removal; then, where a tick
-/// or a step of rewriting brought the end, a tick and the steps up to that one, or, where the answer to AOFSHRINK
-/// brought it, the entering, the asking and the removal; and then the retirement. For AOFSHRINK the server asks by
-/// itself only where PERCENT is not 0, the log is not being rewritten, and the last step told that it has 64 MiB at
-/// least and has grown by so many per cent of what the first step told, or the one that ended the last rewriting; what
-/// a step tells is a hint of the hall. Want of memory in a tick or a step behind it brings the end only where each tick
-/// for ten seconds wanted some, by the moments of the ticks. The door was opened at the address that was asked for;
-/// where it could not be, it stands open where it did before. Each caller who came bears the next number of the door,
-/// and is the caller of exactly one link. No link is left open: the one that waits, where it tells which links were
-/// shut, tells these behind those before, each as it was then, but for those for whose telling it had no memory. Of
-/// each link one of these holds. No session was entered for it; or one was, and was removed at once, for want of memory
-/// or because the link could not be watched, which comes only where the one that waits has failed; then the link is as
-/// it came. Or it was served as one session: the calls of that session are those of the requests of the bytes that were
-/// read of the link, in order, each once but again while it is answered Full, up to an end that is named; and what the
-/// link was written is what the takes of that session gave, in order: all of it where the takes came to an end, and a
-/// first part of it where the link failed or was cut early, where memory ran out, or where the loop ended first. That
-/// the server dismisses a link, that is ends its asking by itself, or cuts it early comes only where there is an idle
-/// limit, or where the end may be asked for and was.
+/// With `serve` and `ws`. All entries that the server's seat has seen are a legal history that opens with the disk's
+/// world, and its own are those of the loop's steps, in their order: a tick and as many steps of rewriting as the loop
+/// makes behind each; a tick, or a tick and steps, up to one that wanted memory; the entering of a session of the
+/// server's own, which asks for AOFSHRINK, and its removal, or an entering for that which was refused; the entering of
+/// a session for a caller; the calls of a session in one turn; a take of a session; its closing; its removal; then,
+/// where a tick or a step of rewriting brought the end, a tick and the steps up to that one, or, where the answer to
+/// AOFSHRINK brought it, the entering, the asking and the removal; and then the retirement. For AOFSHRINK the server
+/// asks by itself only where PERCENT is not 0, the log is not being rewritten, and the last step told that it has 64
+/// MiB at least and has grown by so many per cent of what the first step told, or the one that ended the last
+/// rewriting; what a step tells is a hint of the hall. Want of memory in a tick or a step behind it brings the end only
+/// where each tick for ten seconds wanted some, by the moments of the ticks. The door was opened as was asked for: at
+/// that address, for those kinds of links, for pages of those origins; where it could not be, it is open as it was
+/// before. Each caller who came bears the next number of the door, and is the caller of exactly one link. No link is
+/// left open: the one that waits, where it tells which links were shut, tells these behind those before, each as it was
+/// then, but for those for whose telling it had no memory. Of each link one of these holds. No session was entered for
+/// it; or one was, and was removed at once, for want of memory or because the link could not be watched, which comes
+/// only where the one that waits has failed; then the link is as it came. Or it was served as one session: the calls of
+/// that session are those of the requests of the bytes that were read of the link, in order, each once but again while
+/// it is answered Full, up to an end that is named; and what the link was written is what the takes of that session
+/// gave, in order: all of it where the takes came to an end, and a first part of it where the link failed or was cut
+/// early, where memory ran out, or where the loop ended first. That the server dismisses a link, that is ends its
+/// asking by itself, or cuts it early comes only where there is an idle limit, or where the end may be asked for and
+/// was.
 ///
 /// Status 0: the door told its end, or N callers came, or the end may be asked for and was, and all links went on to
 /// their own ends, or to those by which the server dismissed or cut them; the bytes written are the lines `listening

@@ -1,7 +1,7 @@
 use Rattle.std.proofs.Common.{◌≡◌, ◌≤◌, ap, subst, ◌∙◌, inl, inr}
 use Rattle.std.specs.Prelude.{Some}
 use Rattle.outside.specs.Causes.{Rose}
-use Rattle.outside.specs.Doors.{DoorState}
+use Rattle.outside.specs.Doors.{DoorState, opened_at}
 use Rattle.outside.specs.Waits.{WaitState}
 use Rattle.serve_run.specs.Loops.{around}
 use Rattle.serve_run.specs.Openings.{gains_opening, gains_first}
@@ -20,7 +20,7 @@ returns-in-Err-watch_door-clause-serves g c =
     let k = g.H.HallApi.knows c.args.seat.now in
     inr (inr (inl (record {
       same = ap (λ (d : DoorState). around k d (g.W.WaitForLinks.shows c.watch_door.new.self)) (c.watch_door.ensures.door ∙ c.in_default-listen.ensures)
-          ∙ ap (λ (w : WaitState). around k (record (g.D.ReadyDoor.shows c.args.door.now) { addr = Some c.args.asked.addr.now }) w) c.in-Err-watch_door.ensures.tries.2;
+          ∙ ap (λ (w : WaitState). around k (record (g.D.ReadyDoor.shows c.args.door.now) { opened = Some (opened_at c.args.asked.port) }) w) c.in-Err-watch_door.ensures.tries.2;
       cause = c.in-Err-watch_door.ensures.tries.0;
       later = c.in-Err-watch_door.ensures.tries.1;
       ended = c.end-in-Err-watch_door.ensures.told;
@@ -33,7 +33,7 @@ returns-in-Err-watch_end-clause-serves g c =
     let still : g.W.WaitForLinks.shows c.watch_door.new.self ≡ g.W.WaitForLinks.shows c.args.wait.now = c.in_default-watch_door.ensures.tries in
     inr (inr (inl (record {
       same = ap (λ (d : DoorState). around k d w') (c.watch_door.ensures.door ∙ c.in_default-listen.ensures)
-          ∙ ap (λ (w : WaitState). around k (record (g.D.ReadyDoor.shows c.args.door.now) { addr = Some c.args.asked.addr.now }) w)
+          ∙ ap (λ (w : WaitState). around k (record (g.D.ReadyDoor.shows c.args.door.now) { opened = Some (opened_at c.args.asked.port) }) w)
           (subst (λ (w : WaitState). w' ≡ record w { faults = w'.faults }) still c.in-Err-watch_end.ensures.2);
       cause = subst (λ (w : WaitState). Rose w.faults w'.faults) still c.in-Err-watch_end.ensures.0;
       later = subst (λ (w : WaitState). w.faults ≤ w'.faults) still c.in-Err-watch_end.ensures.1;

@@ -5,7 +5,7 @@ use Rattle.outside.specs.Sides.{Sides}
 use Rattle.world_data.specs.declared.worlds.World.{World}
 use Rattle.journal.specs.declared.openings.OpenFault.TheVariants as fault_of
 use Rattle.serve_run.specs.Ends.{IsEnd, memory_line}
-use Rattle.serve_run.specs.Words.{asked_of}
+use Rattle.serve_run.specs.Words.{asked_of, begins_to_serve}
 use Rattle.shared_hall.specs.Seats.{knows_of}
 use Rattle.replay_run.specs.BackLaws.{untouched}
 use Rattle.replay_run.specs.HandedBack.{HoldsWorld, IsBackAt}
@@ -55,18 +55,18 @@ pub returns-in-Ok-Some-clause-load : goal.returns-in-Ok-Some-clause-load
 returns-in-Ok-Some-clause-load g c = load_unasked (map string_bytes c.args.words.now) (asked_of c.in-Ok-Some.asked) (g.K.Sink.held c.args.sink.now) (g.K.Sink.held c.serve_hall.new.sink) c.serve_hall.result.status
     (ap (option_map asked_of) (sym c.in-Ok-Some.field-0-is) ∙ c.in-Ok-Some.ensures.asked)
 
--- memory wanted for reading the words behind `serve`
+-- memory wanted for reading the words behind `serve` or `ws`
 pub returns-in-Err-clause-replay : goal.returns-in-Err-clause-replay
-returns-in-Err-clause-replay g c asked = absurd (not_alone _ (codes "replay") (codes "serve") refl c.in-Err.ensures.begun asked)
+returns-in-Err-clause-replay g c asked = absurd (not_alone begins_to_serve _ (codes "replay") refl c.in-Err.ensures.begun asked)
 
 pub returns-in-Err-clause-check : goal.returns-in-Err-clause-check
-returns-in-Err-clause-check g c asked = absurd (not_alone _ (codes "check") (codes "serve") refl c.in-Err.ensures.begun asked)
+returns-in-Err-clause-check g c asked = absurd (not_alone begins_to_serve _ (codes "check") refl c.in-Err.ensures.begun asked)
 
 pub returns-in-Err-clause-backtest : goal.returns-in-Err-clause-backtest
-returns-in-Err-clause-backtest g c asked = absurd (not_alone _ (codes "backtest") (codes "serve") refl c.in-Err.ensures.begun asked)
+returns-in-Err-clause-backtest g c asked = absurd (not_alone begins_to_serve _ (codes "backtest") refl c.in-Err.ensures.begun asked)
 
 pub returns-in-Err-clause-read_alone : goal.returns-in-Err-clause-read_alone
-returns-in-Err-clause-read_alone g c asked = absurd (not_alone _ (codes "backtest") (codes "serve") refl c.in-Err.ensures.begun asked)
+returns-in-Err-clause-read_alone g c asked = absurd (not_alone begins_to_serve _ (codes "backtest") refl c.in-Err.ensures.begun asked)
 
 pub returns-in-Err-clause-serve : goal.returns-in-Err-clause-serve
 returns-in-Err-clause-serve g c =

@@ -3,7 +3,7 @@
 ghost use Rattle.std.specs.Prelude.{◌≡◌, map, true, string_bytes, codes, IfOk, OnErr};
 ghost use Rattle.clap.specs.Words.{app_of, found_of, rows_of};
 ghost use Rattle.serve_run.specs.Options.{begins_with, word_of};
-ghost use Rattle.load_command.specs.Words.{commands_of, load_app, load_in, load_of, load_with, seed_of};
+ghost use Rattle.tile_top.specs.LoadWords.{commands_of, load_app, load_in, load_of, load_with, seed_of};
 
 use byte_text::{NoMemory, read_u64};
 use clap::{ArgMatches, Command};

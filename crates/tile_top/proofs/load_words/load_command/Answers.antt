@@ -3,8 +3,8 @@ use Rattle.std.proofs.lemmas.Result.{IfOk-weaker}
 use Rattle.clap.specs.Words.{with_rule}
 use Rattle.clap.specs.Simple.{App}
 use Rattle.serve_run.specs.Options.{needed_rule}
-use Rattle.load_command.specs.Words.{load_app}
-use Rattle.load_command.proofs.words.load_command.Goals as goal
+use Rattle.tile_top.specs.LoadWords.{load_app}
+use Rattle.tile_top.proofs.load_words.load_command.Goals as goal
 
 pub returns : goal.returns
 unfolding load_app

@@ -1,0 +1,7 @@
+use Rattle.std.proofs.Common.{◌∙◌, ap}
+use Rattle.clap.specs.Words.{is_simple_and_free}
+use Rattle.serve_run.proofs.ServeApp.{ws_is_free}
+use Rattle.serve_run.proofs.words.of_ws.Goals as goal
+
+pub matched-requires : goal.matched-requires
+matched-requires c = ap is_simple_and_free c.in_ok-ws_command.ensures ∙ ws_is_free
