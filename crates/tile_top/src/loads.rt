@@ -31,12 +31,7 @@ fn lines_of<M: Machine>(alloc: Global, machine: &mut M, asked: LoadWords) -> Res
 
 // Drives a machine of an empty world with the workload that the words ask for, writes the lines of its summary, and
 // answers the status.
-fn load<M: Machine, K: Sink>(
-    alloc: Global,
-    machine: &mut M,
-    asked: LoadWords,
-    sink: &mut K,
-) -> u8
+fn load<M: Machine, K: Sink>(alloc: Global, machine: &mut M, asked: LoadWords, sink: &mut K) -> u8
     requires { M.hall machine.old ≡ opening_hall empty_world 0 }
     ensures loads { Loads asked (K.held sink.old) (K.held sink.new) result }
     ensures few { (result ≡ 0) ⊎ ((result ≡ 4) ⊎ (result ≡ 7)) }
