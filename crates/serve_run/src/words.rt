@@ -129,12 +129,20 @@ fn asked_in<'a>(matches: &ArgMatches<'a>, kinds: Kinds) -> Option<ServeWords<'a>
     })
 }
 
+// What was found behind `serve`, where each number is one.
+fn serve_asked<'a>(matches: &ArgMatches<'a>) -> Option<ServeWords<'a>>
+    ensures { option_map asked_of result
+        ≡ serve_in (kinds_of (rows_of (found_of matches.now))) (rows_of (found_of matches.now)) }
+{
+    asked_in(matches, kinds_in(matches))
+}
+
 // What the words of `serve` ask for.
 fn of_serve(alloc: Global, words: &[String]) -> Result<Option<ServeWords<'_>>, NoMemory>
     ensures { IfOk result (λ r. option_map asked_of r ≡ serve_taken (map string_bytes words.now)) }
 {
     match matched(serve_command(alloc)?, words)? {
-        Some(matches) => Ok(asked_in(&matches, kinds_in(&matches))),
+        Some(matches) => Ok(serve_asked(&matches)),
         None => Ok(None),
     }
 }

@@ -14,4 +14,4 @@ returns c =
     let idle = c.in_ok-command-3.ensures ∙ ap (λ (app : App). with_rule app (option_rule (codes "idle"))) sessions in
     let shrink_at = c.in_ok-command-4.ensures ∙ ap (λ (app : App). with_rule app (option_rule (codes "shrink-at"))) idle in
     let until = c.in_ok-command-5.ensures ∙ ap (λ (app : App). with_rule app (flag_rule (codes "until-stdin-ends"))) shrink_at in
-    IfOk-weaker c.with_option.result _ _ (λ r is. is ∙ ap (λ (app : App). with_rule app (option_rule (codes "origin"))) until) c.with_option.ensures
+    IfOk-weaker c.with_option-4.result _ _ (λ r is. is ∙ ap (λ (app : App). with_rule app (option_rule (codes "origin"))) until) c.with_option-4.ensures
