@@ -10,7 +10,7 @@ use Rattle.world_model.specs.Seats.{Knows}
 use Rattle.journal.specs.declared.openings.OpenFault.TheVariants as fault_of
 use Rattle.tile_top.specs.Loads.{Loads}
 use Rattle.tile_top.specs.LoadWords.{load_app, load_in, load_of}
-use Rattle.tile_top.specs.declared.load_words.LoadWords.{LoadWords}
+use Rattle.tile_top.specs.declared.workloads.LoadWords.{LoadWords}
 use Rattle.replay_run.specs.declared.halts.Halt.{Halt}
 use Rattle.replay_run.specs.declared.halts.Halt.TheVariants as halted
 use Rattle.serve_run.specs.Ends.{IsEnd, memory_line}

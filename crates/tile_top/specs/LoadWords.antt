@@ -6,8 +6,8 @@ use Rattle.byte_text.specs.declared.texts.TextFault.{TextFault}
 use Rattle.clap.specs.Simple.{App, new_app, with_rule}
 use Rattle.clap.specs.Walk.{Row, first_of}
 use Rattle.serve_run.specs.Options.{begins_with, needed_rule, rows_taken}
-use Rattle.tile_top.specs.declared.load_words.LoadWords.{LoadWords}
-use Rattle.tile_top.specs.declared.load_words.TheConstants.{MOST_COMMANDS}
+use Rattle.tile_top.specs.declared.workloads.LoadWords.{LoadWords}
+use Rattle.tile_top.specs.declared.workloads.TheConstants.{MOST_COMMANDS}
 
 -- `load N SEED`
 unfoldable pub load_app : App

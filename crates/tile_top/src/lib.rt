@@ -4,12 +4,12 @@
 mod backtests;
 mod checks;
 mod halt_ends;
-mod load_words;
 mod loads;
 mod machines;
 mod replays;
 mod serves;
 mod tops;
+mod workloads;
 
 pub use machines::CoreMachine;
 pub use tops::{Ended, out_of_memory, top};

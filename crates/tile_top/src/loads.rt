@@ -11,7 +11,7 @@ ghost use Rattle.work_gen.specs.Outs.{IsLoadOut};
 ghost use Rattle.tile_top.specs.Loads.{Loads};
 
 use crate::CoreMachine;
-use crate::load_words::LoadWords;
+use crate::workloads::LoadWords;
 use byte_text::{NoMemory, Text};
 use outside::Sink;
 use serve_run::{OUT_OF_MEMORY, end};

@@ -21,10 +21,10 @@ ghost use Rattle.tile_top.specs.Fronts.{Fronts, IsCounted, IsDue, IsLeft, IsRewr
 
 use crate::backtests::backtest_disk;
 use crate::checks::check_disk;
-use crate::load_words::load_words;
 use crate::loads::load_core;
 use crate::replays::{Scripted, replay_script};
 use crate::serves::serve_hall;
+use crate::workloads::load_words;
 use byte_text::NoMemory;
 use outside::{Clock, Disk, ReadyDoor, Sink, Source, WaitForLinks};
 use serve_run::{OUT_OF_MEMORY, end, serve_words};

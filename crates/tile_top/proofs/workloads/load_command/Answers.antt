@@ -4,7 +4,7 @@ use Rattle.clap.specs.Words.{with_rule}
 use Rattle.clap.specs.Simple.{App}
 use Rattle.serve_run.specs.Options.{needed_rule}
 use Rattle.tile_top.specs.LoadWords.{load_app}
-use Rattle.tile_top.proofs.load_words.load_command.Goals as goal
+use Rattle.tile_top.proofs.workloads.load_command.Goals as goal
 
 pub returns : goal.returns
 unfolding load_app
