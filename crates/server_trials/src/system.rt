@@ -1,8 +1,8 @@
 //! The real things, over the loopback and in the current folder.
 
 use outside::{
-    Caller, Clock, Disk, Failed, Got, MAX_MOMENT, Named, ReadyDoor, ReadyLink, Sent, Side, Sink,
-    Source, WaitForLinks, Wake,
+    Caller, Clock, Disk, Failed, Got, Kinds, MAX_MOMENT, Named, Port, ReadyDoor, ReadyLink, Sent,
+    Side, Sink, Source, WaitForLinks, Wake,
 };
 use std::fs;
 use std::io::{Read, Write};
@@ -11,13 +11,27 @@ use std::process::Abort;
 use std::test::Fail;
 use system_io::{FolderDisk, PollDoor, PollLink, PollWait, StdinSource, StdoutSink, WallClock};
 
-// A door at a port of this machine.
-fn door_at(rt: &HostRuntime, addr: &str) -> Result<PollDoor<HostRuntime>, Failed> {
+// A door for links of these kinds at a port of this machine.
+fn door_for(
+    rt: &HostRuntime,
+    addr: &str,
+    kinds: Kinds,
+) -> Result<PollDoor<HostRuntime>, Failed> {
     let mut door = PollDoor::new(*rt, rt.alloc());
-    match door.listen(addr) {
+    let port = Port {
+        addr,
+        kinds,
+        origins: "http://map.example",
+    };
+    match door.listen(&port) {
         Ok(()) => Ok(door),
         Err(Failed) => Err(Failed),
     }
+}
+
+// One for plain links.
+fn door_at(rt: &HostRuntime, addr: &str) -> Result<PollDoor<HostRuntime>, Failed> {
+    door_for(rt, addr, Kinds::Plain)
 }
 
 // The link to the caller who waits at a door.
@@ -43,7 +57,7 @@ fn call_at(
 fn a_door_fails_where_it_cannot_listen(rt: HostRuntime) -> Result<(), Fail> {
     let mut door = PollDoor::new(rt, rt.alloc());
     assert!(rt; matches!(door.accept(), Err(Failed)));
-    assert_eq!(rt; door.listen("no address"), Err(Failed));
+    assert!(rt; door_at(&rt, "no address").is_err());
     Ok(())
 }
 
@@ -63,6 +77,94 @@ fn a_link_carries_bytes_both_ways_up_to_its_end(rt: HostRuntime) -> Result<(), F
     assert_eq!(rt; caller.read(&mut got)?, 2);
     assert_eq!(rt; got, *b"cd");
     assert_eq!(rt; caller.read(&mut got)?, 0);
+    Ok(())
+}
+
+// The fields of a request for a WebSocket, and the answer, by the example of RFC 6455, 1.3.
+const UPGRADE: &[u8] = b"GET / HTTP/1.1\r\nHost: a\r\nConnection: Upgrade\r\nUpgrade: websocket\r\n\
+    Sec-WebSocket-Version: 13\r\nSec-WebSocket-Key: dGhlIHNhbXBsZSBub25jZQ==\r\n";
+
+const UPGRADED: &[u8] = b"HTTP/1.1 101 Switching Protocols\r\nUpgrade: websocket\r\nConnection: Upgrade\r\n\
+    Sec-WebSocket-Accept: s3pPLMBiTxaQ9kYGzzhZRbK+xOo=\r\n\r\n";
+
+// A masked binary message of one PING.
+const PING: &[u8] = b"\x82\x8e\x00\x00\x00\x00*1\r\n$4\r\nPING\r\n";
+
+// Whether these bytes are the next that come to a caller.
+fn comes(caller: &mut TcpStream, bytes: &[u8]) -> Result<bool, Fail> {
+    let mut into = [0u8; 256];
+    let room = bytes.len().min(into.len());
+    caller.read_exact(&mut into[..room])?;
+    Ok(into.starts_with(bytes))
+}
+
+// What a door answers itself to a caller who says this begins so.
+fn is_answered(
+    rt: &HostRuntime,
+    door: &mut PollDoor<HostRuntime>,
+    addr: &str,
+    says: &[&[u8]],
+    answer: &[u8],
+) -> Result<bool, Fail> {
+    let mut caller = TcpStream::connect(rt, addr)?;
+    for piece in says {
+        caller.write_all(piece)?;
+        if !matches!(door.accept(), Ok(Caller::Later)) {
+            return Ok(false);
+        }
+    }
+    comes(&mut caller, answer)
+}
+
+#[test]
+fn a_door_for_both_kinds_tells_them_apart(rt: HostRuntime) -> Result<(), Fail> {
+    let addr = "127.0.0.1:39414";
+    let mut door = door_for(&rt, addr, Kinds::Both)?;
+    let mut wait = PollWait::new(rt, rt.alloc())?;
+    assert_eq!(rt; wait.watch_door(&mut door), Ok(()));
+    let silent = TcpStream::connect(&rt, addr)?;
+    assert!(rt; matches!(door.accept(), Ok(Caller::Later)));
+    let mut plain = TcpStream::connect(&rt, addr)?;
+    assert!(rt; is_named(&mut wait, Named::Door));
+    assert!(rt; matches!(door.accept(), Ok(Caller::Later)));
+    plain.write_all(b"*1")?;
+    assert!(rt; is_named(&mut wait, Named::Door));
+    let mut link = accepted(&mut door)?;
+    assert_eq!(rt; wait.watch(&mut link, 7), Ok(()));
+    assert!(rt; is_named(&mut wait, Named::Link(7)));
+    assert_eq!(rt; link.read(&mut [b'.'; 4]), Ok(Got::Bytes(2)));
+    let page = [b"GET / HTTP/1.1\r\nHost: a\r\n\r\n".as_slice()];
+    assert!(rt; is_answered(&rt, &mut door, addr, &page, b"HTTP/1.1 200 OK\r\n")?);
+    let other = [b"GET /x HTTP/1.1\r\n".as_slice(), b"\r\n".as_slice()];
+    assert!(rt; is_answered(&rt, &mut door, addr, &other, b"HTTP/1.1 404 Not Found\r\n")?);
+    let strange = [UPGRADE, b"Origin: http://evil.example\r\n\r\n".as_slice()];
+    assert!(rt; is_answered(&rt, &mut door, addr, &strange, b"HTTP/1.1 403 Forbidden\r\n")?);
+    drop(silent);
+    Ok(())
+}
+
+#[test]
+fn a_web_socket_is_a_link(rt: HostRuntime) -> Result<(), Fail> {
+    let addr = "127.0.0.1:39415";
+    let mut door = door_for(&rt, addr, Kinds::Web)?;
+    let plain = [b"*1\r\n$4\r\nPING\r\n".as_slice()];
+    assert!(rt; is_answered(&rt, &mut door, addr, &plain, b"HTTP/1.1 400 Bad Request\r\n")?);
+    let mut caller = TcpStream::connect(&rt, addr)?;
+    caller.write_all(UPGRADE)?;
+    assert!(rt; matches!(door.accept(), Ok(Caller::Later)));
+    caller.write_all(b"Origin: http://map.example\r\n\r\n")?;
+    caller.write_all(PING)?;
+    let mut link = accepted(&mut door)?;
+    assert!(rt; comes(&mut caller, UPGRADED)?);
+    let mut into = [b'.'; 64];
+    assert_eq!(rt; link.read(&mut into), Ok(Got::Bytes(14)));
+    assert!(rt; into.starts_with(b"*1\r\n$4\r\nPING\r\n"));
+    assert_eq!(rt; link.read(&mut into), Ok(Got::Later));
+    assert_eq!(rt; link.write(b"+PONG\r\n:1\r\n"), Ok(Sent::Bytes(7)));
+    assert!(rt; comes(&mut caller, b"\x82\x07+PONG\r\n")?);
+    drop(link);
+    assert!(rt; comes(&mut caller, b"\x88\x00")?);
+    assert_eq!(rt; caller.read(&mut into)?, 0);
     Ok(())
 }
 

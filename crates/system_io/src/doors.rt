@@ -4,55 +4,42 @@
 //! by want of descriptors, which say nothing about the listener. The door then looks for the next one, since a caller
 //! who waits already is not reported again. Where the system has no descriptor or memory it answers Later, and is to be
 //! asked again after a while, though nobody is reported.
+//!
+//! At a door for plain links alone each caller is let in at once. At one for WebSockets a caller waits in the door until
+//! it is known which kind of link it wants, and whom the door answers itself is never let in.
 
-ghost use Rattle.std.specs.Prelude.{◌≡◌, ◌≤◌};
+ghost use Rattle.std.specs.Prelude.{◌≡◌, ◌≤◌, None};
 ghost use Rattle.outside.specs.Causes.{Rose};
 
-use crate::alive::keep_alive;
+use crate::guests::Look;
+use crate::lines::Line;
 use crate::links::PollLink;
-use mio::net::{TcpListener, TcpStream};
-use outside::{Caller, Failed, ReadyDoor};
+use crate::listeners::{NoListener, listener_at, look_past_lost};
+use crate::lobbies::Lobby;
+use mio::net::TcpListener;
+use outside::{Caller, Failed, Kinds, OpenPort, Port, ReadyDoor};
 use std::alloc::Global;
-use std::io::{self, ErrorKind};
-use std::net::{Net, ToSocketAddrs};
-
-/// So many callers that are lost the door passes over at one look.
-const MOST_LOST: u32 = 1_024;
-
-/// What the system answers where a descriptor is none of a socket that listens: EBADF, EINVAL, ENOTSOCK and EOPNOTSUPP
-/// of Linux.
-const NO_LISTENER: [i32; 4] = [9, 22, 88, 95];
-
-/// What the system answers where it has no memory or descriptor for a caller, who waits on: ENOMEM, ENFILE, EMFILE and
-/// ENOBUFS of Linux.
-const NO_MEANS: [i32; 4] = [12, 23, 24, 105];
+use std::net::Net;
+use std::rt;
+use std::time::Instant;
 
 /// The callers at a TCP address. It fails where it can't listen, and where its listener is none; that a caller went
 /// away, or that the system has no descriptor or memory for one, is no failure of the door. It tells no end.
 #[derive(Drop)]
-pub struct PollDoor<R: Net + Copy + Drop> {
+pub struct PollDoor<R: Net + rt::Clock + Copy + Drop> {
     rt: R,
     alloc: Global,
     pub(crate) listener: Option<TcpListener>,
-    pub(crate) addr: Option<Vec<u8>>,
+    pub(crate) lobby: Lobby,
+    pub(crate) opened: Option<OpenPort>,
     pub(crate) links: u64,
     pub(crate) faults: u64,
 }
 
-// What one look for a caller found.
-#[derive(Drop)]
-enum Found {
-    Came(TcpStream),
-    // Nobody, so far as it is known.
-    Nobody,
-    // One who went away.
-    Lost,
-    NoListener,
-}
-
-impl<R: Net + Copy + Drop> PollDoor<R> {
+impl<R: Net + rt::Clock + Copy + Drop> PollDoor<R> {
     /// A door that is not open yet.
     pub fn new(rt: R, alloc: Global) -> PollDoor<R>
+        ensures opened { result.opened ≡ None }
         ensures links { result.links ≡ 0 }
         ensures faults { result.faults ≡ 0 }
     {
@@ -60,7 +47,8 @@ impl<R: Net + Copy + Drop> PollDoor<R> {
             rt,
             alloc,
             listener: None,
-            addr: None,
+            lobby: Lobby::new(alloc),
+            opened: None,
             links: 0,
             faults: 0,
         }
@@ -68,7 +56,7 @@ impl<R: Net + Copy + Drop> PollDoor<R> {
 
     // Counts a failure.
     fn fail(&mut self) -> Failed
-        ensures addr { self.new.addr ≡ self.old.addr }
+        ensures opened { self.new.opened ≡ self.old.opened }
         ensures links { self.new.links ≡ self.old.links }
         ensures rose { Rose self.old.faults self.new.faults }
         ensures later { self.old.faults ≤ self.new.faults }
@@ -76,76 +64,51 @@ impl<R: Net + Copy + Drop> PollDoor<R> {
         self.faults = self.faults.saturating_add(1);
         Failed
     }
-}
 
-// Listens at the first of the addresses at which it can.
-fn listener_at<R: Net>(rt: &R, addr: &str) -> io::Result<TcpListener> {
-    let mut last = io::Error::from(ErrorKind::InvalidInput);
-    for addr in addr.to_socket_addrs(rt)? {
-        match TcpListener::bind(rt, addr) {
-            Ok(listener) => return Ok(listener),
-            Err(error) => last = error,
+    // Looks for one who is let in.
+    fn look(&mut self) -> Result<Option<Line>, NoListener>
+        ensures opened { self.new.opened ≡ self.old.opened }
+        ensures links { self.new.links ≡ self.old.links }
+        ensures faults { self.new.faults ≡ self.old.faults }
+    {
+        let (Some(listener), Some(port)) = (&self.listener, &self.opened) else {
+            return Err(NoListener);
+        };
+        if port.kinds == Kinds::Plain {
+            return Ok(look_past_lost(listener)?.map(Line::Plain));
         }
-    }
-    Err(last)
-}
-
-// A stream that sends small pieces at once, and whose caller is asked after.
-fn set_up(stream: TcpStream) -> io::Result<TcpStream> {
-    stream.set_nodelay(true)?;
-    keep_alive(&stream)?;
-    Ok(stream)
-}
-
-// Looks once for a caller.
-fn look(listener: &TcpListener) -> Found {
-    match listener.accept() {
-        Ok((stream, _)) => match set_up(stream) {
-            Ok(stream) => Found::Came(stream),
-            Err(_) => Found::Lost,
-        },
-        Err(error) if error.kind() == ErrorKind::WouldBlock => Found::Nobody,
-        Err(error) => match error.raw_os_error() {
-            Some(code) if NO_MEANS.contains(&code) => Found::Nobody,
-            Some(code) if NO_LISTENER.contains(&code) => Found::NoListener,
-            _ => Found::Lost,
-        },
+        let at = Look {
+            alloc: self.alloc,
+            kinds: port.kinds,
+            own: port.addr.as_slice(),
+            named: port.origins.as_slice(),
+            now: Instant::now(&self.rt).ok(),
+        };
+        self.lobby.look(listener, &at)
     }
 }
 
-// Looks for a caller, past those who went away.
-fn look_past_lost(listener: &TcpListener) -> Found {
-    for _ in 0..MOST_LOST {
-        match look(listener) {
-            Found::Lost => {}
-            found => return found,
-        }
-    }
-    Found::Nobody
-}
-
-impl<R: Net + Copy + Drop> ReadyDoor for PollDoor<R> {
-    ghost use Rattle.std.specs.Prelude.{option_map};
-    ghost use Rattle.outside.specs.Doors.{DoorState, Opens, Accepts};
+impl<R: Net + rt::Clock + Copy + Drop> ReadyDoor for PollDoor<R> {
+    ghost use Rattle.outside.specs.Doors.{DoorState, Opens, Accepts, opened_at};
 
     type Link = PollLink;
 
     ghost shows = { λ door. record {
-      addr = option_map (λ bytes. bytes.items) door.addr;
+      opened = door.opened;
       links = door.links;
       ends = 0;
       faults = door.faults;
     } };
 
     /// Where no memory is left for the address, it fails too.
-    fn listen(&mut self, addr: &str) -> Result<(), Failed> {
-        let Ok(bytes) = addr.as_bytes().to_vec(self.alloc) else {
+    fn listen(&mut self, port: &Port<'_>) -> Result<(), Failed> {
+        let Ok(opened) = OpenPort::of(self.alloc, port) else {
             return Err(self.fail());
         };
-        match listener_at(&self.rt, addr) {
+        match listener_at(&self.rt, port.addr) {
             Ok(listener) => {
                 self.listener = Some(listener);
-                self.addr = Some(bytes);
+                self.opened = Some(opened);
                 Ok(())
             }
             Err(_) => Err(self.fail()),
@@ -153,22 +116,18 @@ impl<R: Net + Copy + Drop> ReadyDoor for PollDoor<R> {
     }
 
     fn accept(&mut self) -> Result<Caller<PollLink>, Failed> {
-        let found = match &self.listener {
-            Some(listener) => look_past_lost(listener),
-            None => Found::NoListener,
-        };
-        match found {
-            Found::Came(stream) => {
+        match self.look() {
+            Ok(Some(line)) => {
                 let caller = self.links;
                 self.links = self.links.saturating_add(1);
                 Ok(Caller::Came(PollLink {
-                    stream,
+                    line,
                     caller,
                     faults: 0,
                 }))
             }
-            Found::Nobody | Found::Lost => Ok(Caller::Later),
-            Found::NoListener => Err(self.fail()),
+            Ok(None) => Ok(Caller::Later),
+            Err(NoListener) => Err(self.fail()),
         }
     }
 }

@@ -5,10 +5,15 @@
 mod alive;
 mod doors;
 mod folder_disks;
+mod guests;
 mod inputs;
+mod lines;
 mod links;
+mod listeners;
+mod lobbies;
 mod positioned;
 mod standard_streams;
+mod streams;
 mod waits;
 mod wall_clocks;
 

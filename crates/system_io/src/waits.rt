@@ -8,18 +8,20 @@ ghost use Rattle.outside.specs.Causes.{Rose};
 use crate::doors::PollDoor;
 use crate::inputs::{Input, look_at_input, watch_input};
 use crate::links::PollLink;
+use crate::lobbies::DOOR;
+use mio::unix::SourceFd;
 use mio::{Events, Interest, Poll, Token, Waker};
 use outside::{Failed, Named, NoMemory, WaitForLinks, Wake};
 use std::alloc::Global;
 use std::io::{self, ErrorKind};
 use std::marker::PhantomData;
 use std::net::Net;
+use std::os::fd::AsRawFd;
+use std::rt;
 use std::sync::Arc;
 use std::time::Duration;
 
-/// The door's token, the waker's, and that of standard input. A link's is its number.
-const DOOR: Token = Token(usize::MAX);
-
+/// The waker's token, and that of standard input. The door has the one behind them, and a link's is its number.
 const WAKER: Token = Token(usize::MAX - 1);
 
 const INPUT: Token = Token(usize::MAX - 2);
@@ -108,7 +110,7 @@ fn named_by(token: Token, over: bool) -> Named {
     }
 }
 
-impl<R: Net + Copy + Drop> WaitForLinks<PollDoor<R>> for PollWait<R> {
+impl<R: Net + rt::Clock + Copy + Drop> WaitForLinks<PollDoor<R>> for PollWait<R> {
     ghost use Rattle.std.specs.Prelude.{◌≡◌};
     ghost use Rattle.outside.specs.Waits.{WaitState, Tries, Waits, Shuts};
 
@@ -116,26 +118,29 @@ impl<R: Net + Copy + Drop> WaitForLinks<PollDoor<R>> for PollWait<R> {
 
     ghost shows = { λ wait. record { shut = None; over = wait.over; faults = wait.faults } };
 
+    /// The door has those watched itself whom it has not let in yet: one of them names the door.
     fn watch_door(&mut self, door: &mut PollDoor<R>) -> Result<(), Failed> {
         let Some(listener) = &mut door.listener else {
             return Err(self.fail());
         };
-        let registered = self
-            .poll
-            .registry()
-            .register(listener, DOOR, Interest::READABLE);
-        match registered {
-            Ok(()) => Ok(()),
-            Err(_) => Err(self.fail()),
+        let registry = self.poll.registry();
+        let registered = registry.register(listener, DOOR, Interest::READABLE);
+        match (registered, registry.try_clone()) {
+            (Ok(()), Ok(registry)) => {
+                door.lobby.watch_by(registry);
+                Ok(())
+            }
+            _ => Err(self.fail()),
         }
     }
 
     fn watch(&mut self, link: &mut PollLink, token: u32) -> Result<(), Failed> {
         let both = Interest::READABLE.add(Interest::WRITABLE);
+        let stream = link.line.stream().as_raw_fd();
         let registered = self
             .poll
             .registry()
-            .register(&mut link.stream, Token(token as usize), both);
+            .register(&mut SourceFd(&stream), Token(token as usize), both);
         match registered {
             Ok(()) => Ok(()),
             Err(_) => Err(self.fail()),

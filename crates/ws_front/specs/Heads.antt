@@ -9,11 +9,11 @@ use Rattle.ws_front.specs.declared.heads.Upgrade.TheVariants as upgrade
 
 abbrev pub answer_by : Upgrade → Answer
 answer_by upgrade.None = answer.Page
-answer_by upgrade.WebSocket = answer.WebSocket
+answer_by (upgrade.WebSocket key) = answer.WebSocket key
 answer_by upgrade.Wrong = answer.BadRequest
 
 -- the method first, then the origin, and then what is asked for
-abbrev pub answer_of : Bool → Bytes → Option Bytes → Upgrade → Bytes → List Bytes → Answer
+abbrev pub answer_of : Bool → Bytes → Option Bytes → Upgrade → Bytes → Bytes → Answer
 answer_of is_get path origin asked own named =
     if not is_get then answer.BadRequest else
     if not (is_allowed origin own named) then answer.Forbidden else

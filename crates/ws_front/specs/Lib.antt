@@ -6,3 +6,5 @@ pub mod Requests
 pub mod WebLinks
 pub mod Origins
 pub mod Heads
+pub mod Greetings
+pub mod AnswerTexts

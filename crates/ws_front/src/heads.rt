@@ -4,15 +4,15 @@ ghost use Rattle.std.specs.Prelude.{◌≡◌};
 ghost use Rattle.ws_front.specs.Heads.{answer_of};
 ghost use Rattle.ws_front.specs.Origins.{bytes_of};
 
-use crate::origins::{Origins, is_allowed};
+use crate::origins::is_allowed;
 
-/// Whether a head asks for a WebSocket (RFC 6455, "Client requirements").
+/// Whether a head asks for a WebSocket (RFC 6455, "Reading the Client's Opening Handshake").
 #[derive(Clone, Copy, Debug, PartialEq, Eq)]
 pub enum Upgrade {
     /// It asks for none.
     None,
-    /// It asks for one.
-    WebSocket,
+    /// It asks for one, and its key is answered by this one.
+    WebSocket([u8; 28]),
     /// It asks for one, and not as it has to.
     Wrong,
 }
@@ -33,8 +33,8 @@ pub struct Head<'a> {
 /// What a head is answered.
 #[derive(Clone, Copy, Debug, PartialEq, Eq)]
 pub enum Answer {
-    /// 101: the link is a WebSocket from now on.
-    WebSocket,
+    /// 101, with this key: the link is a WebSocket from now on.
+    WebSocket([u8; 28]),
     /// 200, and the page.
     Page,
     /// 400.
@@ -45,8 +45,9 @@ pub enum Answer {
     NotFound,
 }
 
-/// What a head is answered by a server that listens at the address `own`, and takes the origins that were named.
-pub fn answer_to(head: &Head<'_>, own: &[u8], named: &Origins) -> Answer
+/// What a head is answered by a server that listens at the address `own`, and takes the origins that were named with a
+/// comma between two.
+pub fn answer_to(head: &Head<'_>, own: &[u8], named: &[u8]) -> Answer
     ensures { result
         ≡ answer_of head.now.is_get head.now.path.now (bytes_of head.now.origin) head.now.upgrade own.now named.now }
 {
@@ -61,7 +62,7 @@ pub fn answer_to(head: &Head<'_>, own: &[u8], named: &Origins) -> Answer
     }
     match head.upgrade {
         Upgrade::None => Answer::Page,
-        Upgrade::WebSocket => Answer::WebSocket,
+        Upgrade::WebSocket(key) => Answer::WebSocket(key),
         Upgrade::Wrong => Answer::BadRequest,
     }
 }

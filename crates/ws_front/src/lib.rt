@@ -2,12 +2,14 @@
 //! out as one binary message.
 #![tactic(auto)]
 
+mod answer_texts;
 mod frames;
+mod greetings;
 mod heads;
-mod kinds;
 mod lines;
 mod list_talks;
 mod origins;
+mod page;
 mod pieces;
 mod requests;
 mod talks;
@@ -17,11 +19,12 @@ mod unread;
 mod web_links;
 mod ws_talks;
 
+pub use answer_texts::{answer_text, own_page};
 pub use frames::frame_end;
+pub use greetings::{Greeting, MAX_HEAD, greet};
 pub use heads::{Answer, Head, Upgrade, answer_to};
-pub use kinds::{Kinds, PortDoor};
 pub use list_talks::{ListTalk, Listening, Saying};
-pub use origins::{Origins, is_allowed};
+pub use origins::is_allowed;
 pub use requests::is_one_request;
 pub use talks::{Message, Said, Talk, TalkFault, Told};
 pub use web_links::{Phase, WebLink};

@@ -5,14 +5,8 @@
 //! was named by whoever runs the server; programs name none. `null` is what a browser says of a page without an origin,
 //! and many such pages are strangers: it is never taken.
 
-ghost use Rattle.std.specs.Prelude.{◌≡◌, ◌++◌, ◌∷◌, [], OnOk, OnErr};
-ghost use Rattle.std.specs.List.{list_any};
-ghost use Rattle.byte_text.specs.Names.{same};
-ghost use Rattle.ws_front.specs.Origins.{bytes_of, is_allowed, is_local, is_own};
-
-use byte_text::{NoMemory, Text};
-use std::alloc::Global;
-use std::marker::Model;
+ghost use Rattle.std.specs.Prelude.{◌≡◌};
+ghost use Rattle.ws_front.specs.Origins.{bytes_of, is_allowed, is_bare, is_local, is_named, is_own};
 
 /// The bytes before the address in the origin of the server's own page.
 const SCHEME: &[u8] = b"http://";
@@ -20,48 +14,8 @@ const SCHEME: &[u8] = b"http://";
 /// The name by which a page of this machine is known, too.
 const LOCAL: &[u8] = b"localhost";
 
-/// The origins that were named by whoever runs the server.
-#[derive(Drop)]
-pub struct Origins {
-    named: Vec<Text>,
-}
-
-impl Model for Origins {
-    ghost use Rattle.std.specs.Prelude.{List};
-    ghost use Rattle.byte_text.specs.Names.{Bytes};
-
-    ghost Value = { List Bytes };
-
-    ghost view = { λ o. o.named.items };
-}
-
-impl Origins {
-    /// None.
-    pub fn new(alloc: Global) -> Origins
-        ensures { result ≡ [] }
-    {
-        Origins {
-            named: Vec::new(alloc),
-        }
-    }
-
-    /// Names one more. At want of memory all is as before.
-    pub fn push(&mut self, alloc: Global, origin: &[u8]) -> Result<(), NoMemory>
-        ensures ok { OnOk result (self.new ≡ self.old ++ origin.now ∷ []) }
-        ensures err { OnErr result (self.new ≡ self.old) }
-    {
-        let origin = Text::of(alloc, origin)?;
-        self.named.push(origin)?;
-        Ok(())
-    }
-
-    // Whether an origin is among them.
-    fn has(&self, origin: &[u8]) -> bool
-        ensures { result ≡ list_any (same origin.now) self.now }
-    {
-        self.named.iter().any(|name| origin == name.bytes())
-    }
-}
+/// How an address ends whose port an origin leaves out.
+const COMMON_PORT: &[u8] = b":80";
 
 // Whether an origin without its scheme is `localhost` with the port of this address.
 fn is_local(host: &[u8], own: &[u8]) -> bool
@@ -74,6 +28,17 @@ fn is_local(host: &[u8], own: &[u8]) -> bool
     port.starts_with(b":") && own.ends_with(port)
 }
 
+// Whether an origin without its scheme is one without a port, as browsers write it where the port is 80.
+fn is_bare(host: &[u8], own: &[u8]) -> bool
+    ensures { result ≡ is_bare host.now own.now }
+{
+    if !own.ends_with(COMMON_PORT) {
+        return false;
+    }
+    let name = &own[..own.len() - COMMON_PORT.len()];
+    host == name || host == LOCAL
+}
+
 // Whether an origin is that of the server's own page.
 fn is_own(origin: &[u8], own: &[u8]) -> bool
     ensures { result ≡ is_own origin.now own.now }
@@ -82,18 +47,36 @@ fn is_own(origin: &[u8], own: &[u8]) -> bool
         return false;
     }
     let host = &origin[SCHEME.len()..];
-    host == own || is_local(host, own)
+    host == own || is_local(host, own) || is_bare(host, own)
 }
 
-/// Whether a request of this origin is taken, where the server listens at the address `own`. One that names no origin
-/// is.
-pub fn is_allowed(origin: Option<&[u8]>, own: &[u8], named: &Origins) -> bool
+// Whether an origin is one of those that were named, a comma between two.
+fn is_named(origin: &[u8], named: &[u8]) -> bool
+    ensures { result ≡ is_named origin.now named.now }
+{
+    let mut start = 0;
+    for i in 0..named.len() {
+        if named[i] == b',' {
+            if origin == &named[start..i] {
+                return true;
+            }
+            start = i + 1;
+        }
+    }
+    origin == &named[start..]
+}
+
+/// Whether a request of this origin is taken, where the server listens at the address `own`, and those of other pages
+/// were named with a comma between two. A request that names no origin is taken.
+pub fn is_allowed(origin: Option<&[u8]>, own: &[u8], named: &[u8]) -> bool
     ensures { result ≡ is_allowed (bytes_of origin.entry) own.now named.now }
 {
     match origin {
         None => true,
         Some(origin) => {
-            origin != b"null".as_slice() && (is_own(origin, own) || named.has(origin))
+            !origin.is_empty()
+                && origin != b"null".as_slice()
+                && (is_own(origin, own) || is_named(origin, named))
         }
     }
 }

@@ -1,16 +1,19 @@
 //! Frames, links over conversations in memory, and a WebSocket over bytes.
 
 use crate::{
-    Answer, Head, ListTalk, Listening, Message, Origins, Said, Saying, Talk, Told, Upgrade,
-    WebLink, WsTalk, answer_to, frame_end, is_allowed, limits,
+    Answer, Greeting, Head, ListTalk, Listening, MAX_HEAD, Message, Said, Saying, Talk, Told,
+    Upgrade, WebLink, WsTalk, answer_text, answer_to, frame_end, greet, is_allowed, own_page,
 };
 use byte_text::Text;
 use outside::{Failed, Got, ReadyLink, Sent};
-use std::alloc::{AllocError, Global};
+use std::alloc::Global;
 use std::test::Fail;
-use tungstenite::{Duplex, NoMask, Role, WebSocket};
+use tungstenite::Duplex;
 
 const PING: &[u8] = b"*1\r\n$4\r\nPING\r\n";
+
+// The key that answers the one of RFC 6455, 1.3.
+const ACCEPT: &[u8; 28] = b"s3pPLMBiTxaQ9kYGzzhZRbK+xOo=";
 
 #[test]
 fn a_frame_of_each_kind_is_cut_at_its_end(rt: HostRuntime) {
@@ -124,11 +127,7 @@ fn talk_over(alloc: Global, bytes: &'static [u8]) -> WsTalk<Duplex<&'static [u8]
         reader: bytes,
         writer: Vec::new(alloc),
     };
-    let config = Some(limits());
-    WsTalk::of(
-        alloc,
-        WebSocket::from_raw_socket(alloc, stream, NoMask, Role::Server, config),
-    )
+    WsTalk::over(alloc, stream, Vec::new(alloc))
 }
 
 #[test]
@@ -165,35 +164,96 @@ fn what_is_no_binary_message_is_told_apart(rt: HostRuntime) -> Result<(), Fail> 
 }
 
 #[test]
-fn strange_origins_are_refused(rt: HostRuntime) -> Result<(), AllocError> {
-    let alloc = rt.alloc();
-    let own = b"127.0.0.1:9851".as_slice();
-    let mut named = Origins::new(alloc);
-    for name in [b"https://map.example".as_slice(), b"null".as_slice()] {
-        assert!(rt; named.push(alloc, name).is_ok());
-    }
-    for (origin, taken) in [
-        (b"http://127.0.0.1:9851".as_slice(), true),
-        (b"http://localhost:9851".as_slice(), true),
-        (b"https://map.example".as_slice(), true),
-        (b"http://127.0.0.1:9852".as_slice(), false),
-        (b"http://localhost:985".as_slice(), false),
-        (b"http://localhost".as_slice(), false),
-        (b"https://127.0.0.1:9851".as_slice(), false),
-        (b"http://evil.example:9851".as_slice(), false),
-        (b"null".as_slice(), false),
-        (b"".as_slice(), false),
+fn strange_origins_are_refused(rt: HostRuntime) {
+    let named = b"https://map.example,null,,http://a.example:8080".as_slice();
+    for (own, origin, taken) in [
+        (
+            b"127.0.0.1:9851".as_slice(),
+            b"http://127.0.0.1:9851".as_slice(),
+            true,
+        ),
+        (
+            b"127.0.0.1:9851".as_slice(),
+            b"http://localhost:9851".as_slice(),
+            true,
+        ),
+        (
+            b"127.0.0.1:9851".as_slice(),
+            b"https://map.example".as_slice(),
+            true,
+        ),
+        (
+            b"127.0.0.1:9851".as_slice(),
+            b"http://a.example:8080".as_slice(),
+            true,
+        ),
+        (
+            b"127.0.0.1:9851".as_slice(),
+            b"http://a.example".as_slice(),
+            false,
+        ),
+        (
+            b"127.0.0.1:9851".as_slice(),
+            b"http://127.0.0.1:9852".as_slice(),
+            false,
+        ),
+        (
+            b"127.0.0.1:9851".as_slice(),
+            b"http://127.0.0.1".as_slice(),
+            false,
+        ),
+        (
+            b"127.0.0.1:9851".as_slice(),
+            b"http://localhost:985".as_slice(),
+            false,
+        ),
+        (
+            b"127.0.0.1:9851".as_slice(),
+            b"http://localhost".as_slice(),
+            false,
+        ),
+        (
+            b"127.0.0.1:9851".as_slice(),
+            b"https://127.0.0.1:9851".as_slice(),
+            false,
+        ),
+        (
+            b"127.0.0.1:9851".as_slice(),
+            b"http://evil.example:9851".as_slice(),
+            false,
+        ),
+        (b"127.0.0.1:9851".as_slice(), b"null".as_slice(), false),
+        (b"127.0.0.1:9851".as_slice(), b"".as_slice(), false),
+        (
+            b"127.0.0.1:80".as_slice(),
+            b"http://127.0.0.1".as_slice(),
+            true,
+        ),
+        (
+            b"127.0.0.1:80".as_slice(),
+            b"http://localhost".as_slice(),
+            true,
+        ),
+        (
+            b"127.0.0.1:80".as_slice(),
+            b"http://127.0.0.2".as_slice(),
+            false,
+        ),
+        (
+            b"127.0.0.1:8080".as_slice(),
+            b"http://127.0.0.1".as_slice(),
+            false,
+        ),
     ] {
-        assert_eq!(rt; is_allowed(Some(origin), own, &named), taken);
+        assert_eq!(rt; is_allowed(Some(origin), own, named), taken);
     }
-    assert!(rt; is_allowed(None, own, &named));
-    Ok(())
+    assert!(rt; is_allowed(None, b"127.0.0.1:9851", named));
 }
 
 #[test]
 fn heads_are_answered(rt: HostRuntime) {
     let own = b"127.0.0.1:9851".as_slice();
-    let named = Origins::new(rt.alloc());
+    let named = b"".as_slice();
     let strange = Some(b"http://evil.example".as_slice());
     for (is_get, path, origin, upgrade, answer) in [
         (true, b"/".as_slice(), None, Upgrade::None, Answer::Page),
@@ -201,8 +261,8 @@ fn heads_are_answered(rt: HostRuntime) {
             true,
             b"/".as_slice(),
             None,
-            Upgrade::WebSocket,
-            Answer::WebSocket,
+            Upgrade::WebSocket(*ACCEPT),
+            Answer::WebSocket(*ACCEPT),
         ),
         (
             true,
@@ -215,7 +275,7 @@ fn heads_are_answered(rt: HostRuntime) {
             true,
             b"/".as_slice(),
             strange,
-            Upgrade::WebSocket,
+            Upgrade::WebSocket(*ACCEPT),
             Answer::Forbidden,
         ),
         (
@@ -246,6 +306,104 @@ fn heads_are_answered(rt: HostRuntime) {
             origin,
             upgrade,
         };
-        assert_eq!(rt; answer_to(&head, own, &named), answer);
+        assert_eq!(rt; answer_to(&head, own, named), answer);
     }
+}
+
+// The fields of a browser that asks for a WebSocket.
+const UPGRADE: &[u8] = b"Host: a\r\nConnection: keep-alive, Upgrade\r\nUpgrade: WebSocket\r\n\
+    Sec-WebSocket-Version: 13\r\nSec-WebSocket-Key: dGhlIHNhbXBsZSBub25jZQ==\r\n";
+
+// What the first bytes of a link come to, which are these pieces.
+fn greeted(alloc: Global, pieces: &[&[u8]]) -> Result<Greeting, Fail> {
+    let mut bytes = Text::new(alloc);
+    for piece in pieces {
+        bytes.push(piece)?;
+    }
+    Ok(greet(bytes.bytes(), b"127.0.0.1:9851", b"http://a.example"))
+}
+
+#[test]
+fn first_bytes_are_read_as_a_head(rt: HostRuntime) -> Result<(), Fail> {
+    let alloc = rt.alloc();
+    let line = b"GET / HTTP/1.1\r\n".as_slice();
+    let end = b"\r\n".as_slice();
+    let own = b"Origin: http://127.0.0.1:9851\r\n".as_slice();
+    for (pieces, answer) in [
+        ([line, UPGRADE, own, end], Answer::WebSocket(*ACCEPT)),
+        ([line, UPGRADE, b"", end], Answer::WebSocket(*ACCEPT)),
+        ([line, b"Host: a\r\n", b"", end], Answer::Page),
+        ([b"GET / HTTP/1.0\r\n", b"", b"", end], Answer::Page),
+        (
+            [b"GET / HTTP/1.0\r\n", UPGRADE, b"", end],
+            Answer::BadRequest,
+        ),
+        (
+            [b"GET /x HTTP/1.1\r\n", UPGRADE, b"", end],
+            Answer::NotFound,
+        ),
+        ([b"HEAD / HTTP/1.1\r\n", b"", b"", end], Answer::BadRequest),
+        (
+            [line, UPGRADE, b"Origin: http://b.example\r\n", end],
+            Answer::Forbidden,
+        ),
+        ([line, UPGRADE, b"Origin: null\r\n", end], Answer::Forbidden),
+        ([line, own, own, end], Answer::BadRequest),
+        ([line, b"Upgrade: h2c\r\n", b"", end], Answer::BadRequest),
+        (
+            [
+                line,
+                b"Upgrade: websocket\r\nConnection: upgrade\r\n",
+                b"",
+                end,
+            ],
+            Answer::BadRequest,
+        ),
+    ] {
+        let len = pieces[0].len() + pieces[1].len() + pieces[2].len() + end.len();
+        assert_eq!(rt;
+            greeted(alloc, pieces.as_slice())?,
+            Greeting::Whole(answer, len)
+        );
+    }
+    Ok(())
+}
+
+#[test]
+fn first_bytes_are_no_head(rt: HostRuntime) -> Result<(), Fail> {
+    let alloc = rt.alloc();
+    let long = [b'a'; MAX_HEAD];
+    for (pieces, greeting) in [
+        ([b"".as_slice(), b""], Greeting::Begun),
+        ([b"GET / HTTP/1.1\r\nHost: a\r\n", b""], Greeting::Begun),
+        (
+            [b"GET / HTTP/1.1\r\nX: ", long.as_slice()],
+            Greeting::Broken,
+        ),
+        ([b"GET / HTTP/2\r\n\r\n", b""], Greeting::Broken),
+        ([b"\x16\x03\x01", b""], Greeting::Broken),
+    ] {
+        assert_eq!(rt; greeted(alloc, pieces.as_slice())?, greeting);
+    }
+    Ok(())
+}
+
+#[test]
+fn an_answer_says_how_long_its_body_is(rt: HostRuntime) -> Result<(), Fail> {
+    let alloc = rt.alloc();
+    let text = answer_text(alloc, &Answer::WebSocket(*ACCEPT), own_page())?;
+    assert_eq!(rt;
+        text.bytes(),
+        b"HTTP/1.1 101 Switching Protocols\r\nUpgrade: websocket\r\nConnection: Upgrade\r\n\
+        Sec-WebSocket-Accept: s3pPLMBiTxaQ9kYGzzhZRbK+xOo=\r\n\r\n"
+            .as_slice()
+    );
+    let text = answer_text(alloc, &Answer::Page, b"<p>")?;
+    assert!(rt;
+        text.bytes().starts_with(
+            b"HTTP/1.1 200 OK\r\nContent-Type: text/html; charset=utf-8\r\nContent-Length: 3\r\n"
+        )
+    );
+    assert!(rt; text.bytes().ends_with(b"\r\nConnection: close\r\n\r\n<p>"));
+    Ok(())
 }

@@ -16,9 +16,11 @@ use crate::frames::frame_end;
 use crate::requests::is_one_request;
 use crate::talks::{Said, Talk, Told};
 use crate::unread::Unread;
+use crate::ws_talks::WsTalk;
 use byte_text::{NoMemory, Text};
 use outside::{Failed, Got, ReadyLink, Sent};
 use std::alloc::Global;
+use std::io::{Read, Write};
 use std::marker::Model;
 
 /// So many listenings one read makes at most. Where they bring nothing to read, the caller is heard no more.
@@ -209,6 +211,15 @@ impl<T: Talk> WebLink<T> {
                 Err(self.fail())
             }
         }
+    }
+}
+
+impl<S: Read + Write + Drop> WebLink<WsTalk<S>> {
+    /// Says that the conversation ends, where the stream takes that at once.
+    pub fn close(&mut self)
+        ensures { self.new ≡ self.old }
+    {
+        self.talk.close();
     }
 }
 

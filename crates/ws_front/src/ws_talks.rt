@@ -13,7 +13,7 @@ use crate::talks::{Said, Talk, TalkFault, Told};
 use byte_text::{MAX_REQUEST, MAX_WORDS, Text};
 use std::alloc::Global;
 use std::io::{ErrorKind, Read, Write};
-use tungstenite::{Error, Message, NoMask, WebSocket, WebSocketConfig};
+use tungstenite::{Error, Message, NoMask, Role, WebSocket, WebSocketConfig};
 
 /// The most bytes of a message: those of all words of a request, and the longest heads of the request and of each word.
 pub const MAX_MESSAGE: usize = MAX_REQUEST + 12 * MAX_WORDS + 7;
@@ -30,6 +30,7 @@ pub fn limits() -> WebSocketConfig
 }
 
 /// A conversation over a WebSocket.
+#[derive(Drop)]
 pub struct WsTalk<S: Read + Write + Drop> {
     alloc: Global,
     pub(crate) socket: WebSocket<S, NoMask>,
@@ -41,17 +42,45 @@ pub struct WsTalk<S: Read + Write + Drop> {
 }
 
 impl<S: Read + Write + Drop> WsTalk<S> {
-    /// The conversation over this WebSocket.
-    pub fn of(alloc: Global, socket: WebSocket<S, NoMask>) -> WsTalk<S>
-        ensures { result.faults ≡ 0 }
+    /// The server's conversation over a stream whose opening handshake is done, of which these bytes were read behind
+    /// the head.
+    pub fn over(alloc: Global, stream: S, behind: Vec<u8>) -> WsTalk<S>
+        ensures stream { result.socket.stream ≡ stream }
+        ensures input { result.socket.input ≡ behind.items }
+        ensures message { result.socket.conn.config.max_message_size ≡ Some (max_request + 12 * max_words + 7) }
+        ensures frame { result.socket.conn.config.max_frame_size ≡ Some (max_request + 12 * max_words + 7) }
+        ensures masks { result.socket.conn.config.accept_unmasked_frames ≡ false }
+        ensures faults { result.faults ≡ 0 }
     {
+        let config = Some(limits());
         WsTalk {
             alloc,
-            socket,
+            socket: WebSocket::from_partially_read(
+                alloc,
+                stream,
+                NoMask,
+                behind,
+                Role::Server,
+                config,
+            ),
             begun: None,
             is_lost: false,
             faults: 0,
         }
+    }
+
+    /// The stream.
+    pub fn stream(&self) -> &S
+        ensures { result.now ≡ self.now.socket.stream }
+    {
+        self.socket.get_ref()
+    }
+
+    /// Sends a close frame, where the stream takes it at once.
+    pub fn close(&mut self)
+        ensures { self.new.faults ≡ self.old.faults }
+    {
+        let _ = self.socket.close(None);
     }
 
     // Counts a failure.
@@ -174,19 +203,5 @@ impl<S: Read + Write + Drop> Talk for WsTalk<S> {
             }
             Err(error) => self.hold(&error, bytes.len()),
         }
-    }
-}
-
-impl<S: Read + Write + Drop> Drop for WsTalk<S> {
-    /// A close frame is sent, where the stream takes it at once.
-    fn drop(self) {
-        let WsTalk {
-            alloc: _,
-            mut socket,
-            begun: _,
-            is_lost: _,
-            faults: _,
-        } = self;
-        let _ = socket.close(None);
     }
 }
