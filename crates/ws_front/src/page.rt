@@ -85,6 +85,7 @@ Drag with Shift for an area.</p>
 const WORLD = 1e9;    // coordinates go so far either way
 const FOLLOWED = 8;   // so many keys are followed unasked, each over a connection of its own
 const LINES = 200;    // of the log
+const WORDS = 120;    // so many texts are written on the map at most
 const LOOK = 2000, RETRY = 1000, LOST = 10000, FLASH = 2500;    // milliseconds
 const COLOURS = ["#0072b2", "#d55e00", "#009e73", "#cc79a7"];
 // Patterns of the names of all channels but those of live fences, which begin with "live/": "[^l]*", "l", "l[^i]*" ..
@@ -151,7 +152,7 @@ class Link {
 // What is shown: which keys there are and whether they are wanted, of each its objects by id, and the areas by the
 // names of their channels.
 const keys = new Map(), objects = new Map(), areas = new Map(), events = [];
-let session, connected = false, picked = null, moves = 0, fresh = [], paused = false;
+let session, retry, connected = false, picked = null, moves = 0, fresh = [], paused = false;
 
 // GeoJSON as shapes. Each is lines of positions; those of a face are its rings.
 function shapesOf(it, shapes = []) {
@@ -220,12 +221,16 @@ class Session {
 
   listeners() { return [this.tells, ...[...this.lives.values()].map(live => live.link)]; }
 
-  end(why) {
+  close() {
     clearInterval(this.timer);
     [this.asks, ...this.listeners()].forEach(link => link.close());
     connected = false;
+  }
+
+  end(why) {
+    this.close();
     show("state", `Not connected. ${why} Trying again every second.`, "bad");
-    setTimeout(() => { session = new Session(); }, RETRY);
+    retry = setTimeout(connect, RETRY);
     redraw();
   }
 
@@ -407,7 +412,7 @@ function log() {
 
 // The map: y goes up. It shows all until somebody moves it.
 const canvas = element("map"), pen = canvas.getContext("2d"), view = { x: 0, y: 0, scale: 1, steered: false };
-let due = false, width = 1, height = 1, frame = null;
+let due = false, pause = 0, words = 0, width = 1, height = 1, frame = null;
 const ink = { back: "", ink: "", soft: "", grid: "", area: "", enter: "", exit: "" };
 
 const across = x => (x - view.x) * view.scale + width / 2;
@@ -419,8 +424,9 @@ const isSeen = ({ box: [left, bottom, right, top] }) =>
   across(left) <= width && across(right) >= 0 && down(top) <= height && down(bottom) >= 0;
 const all = () => [...areas.values(), ...[...objects.values()].flatMap(ids => [...ids.values()])];
 
+// Where a picture takes long, the next one waits twice as long, so that messages need not.
 function redraw() {
-  if (!due) requestAnimationFrame(draw);
+  if (!due) setTimeout(requestAnimationFrame, pause, draw);
   due = true;
 }
 
@@ -456,22 +462,26 @@ function grid() {
   }
 }
 
-// Draws shapes; dots are filled wholly.
+// Draws shapes. A dot is a square, which takes half the time of a circle.
 function paint(shapes, colour, line, cover) {
   Object.assign(pen, { strokeStyle: colour, fillStyle: colour, lineWidth: line });
   for (const { kind, lines, middle, radius } of shapes) {
+    if (kind === "dot") {
+      pen.fillRect(across(lines[0][0][0]) - 3.5, down(lines[0][0][1]) - 3.5, 7, 7);
+      continue;
+    }
     pen.beginPath();
     if (kind === "circle") pen.arc(across(middle[0]), down(middle[1]), radius * view.scale, 0, 7);
-    else if (kind === "dot") pen.arc(across(lines[0][0][0]), down(lines[0][0][1]), 4, 0, 7);
     else for (const places of lines) places.forEach(([x, y], at) => pen[at ? "lineTo" : "moveTo"](across(x), down(y)));
-    pen.globalAlpha = kind === "dot" ? 1 : kind === "line" ? 0 : cover;
+    pen.globalAlpha = kind === "line" ? 0 : cover;
     pen.fill("evenodd");
     pen.globalAlpha = 1;
-    if (kind !== "dot") pen.stroke();
+    pen.stroke();
   }
 }
 
 function write(text, left, top, colour) {
+  if (++words > WORDS) return;
   Object.assign(pen, { strokeStyle: ink.back, fillStyle: colour, lineWidth: 3 });
   pen.strokeText(text, left, top);
   pen.fillText(text, left, top);
@@ -479,19 +489,19 @@ function write(text, left, top, colour) {
 
 // What has just happened is drawn in a colour, with a ring that is dashed at an exit, and in words.
 function drawObject(key, id, it, now, colour, named) {
-  const lit = it.flash?.until > now, chosen = picked?.[0] === key && picked[1] === id;
-  const left = across(it.x), top = down(it.y);
+  const left = it.flash?.until - now, lit = left > 0, chosen = picked?.[0] === key && picked[1] === id;
+  const [x, y] = [across(it.x), down(it.y)];
   paint(it.shapes, colour, 2, .2);
   if (lit || chosen) {
     Object.assign(pen, { strokeStyle: lit && ink[it.flash.text] || ink.ink, lineWidth: 3 });
     pen.setLineDash(lit && it.flash.text === "exit" ? [5, 4] : []);
     pen.beginPath();
-    pen.arc(left, top, 11, 0, 7);
+    pen.arc(x, y, 11, 0, 7);
     pen.stroke();
     pen.setLineDash([]);
   }
-  if (lit || chosen || named) write(lit ? `${id}: ${it.flash.text}` : id, left + 9, top - 5, ink.ink);
-  if (chosen || named > 1) write(wordsOf(it.fields), left + 9, top + 9, ink.soft);
+  if (left > FLASH / 2 || chosen || named) write(lit ? `${id}: ${it.flash.text}` : id, x + 9, y - 5, ink.ink);
+  if (chosen || named > 1) write(wordsOf(it.fields), x + 9, y + 9, ink.soft);
 }
 
 function drawArea(name, { shapes, box, flash }, now) {
@@ -502,7 +512,9 @@ function drawArea(name, { shapes, box, flash }, now) {
 
 function draw() {
   due = false;
-  const now = Date.now(), things = all();
+  words = 0;
+  const now = Date.now(), start = performance.now(), things = all();
+  setTimeout(() => { pause = Math.min(2 * (performance.now() - start), 100); });
   if (!view.steered && (things.length !== view.count || !things.every(isIn))) fit();
   view.count = things.length;
   pen.setTransform(devicePixelRatio, 0, 0, devicePixelRatio, 0, 0);
@@ -625,7 +637,14 @@ Object.defineProperty(window, "fudrask", { value: Object.freeze({
   get events() { return events.map(it => ({ ...it })); },
 }) });
 
-session = new Session();
+function connect() {
+  clearTimeout(retry);
+  session = new Session();
+}
+
+// A browser may keep a page that was left, connections and all, to show it again.
+window.onpagehide = () => session?.close();
+window.onpageshow = connect;
 </script>
 </body>
 </html>
