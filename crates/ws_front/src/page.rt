@@ -217,7 +217,7 @@ class Session {
     this.look();
   }
 
-  open(heard) { return new Link(() => this.end("The server is gone."), heard); }
+  open(heard) { return new Link(() => this.end("The server is gone, or takes no more callers."), heard); }
 
   listeners() { return [this.tells, ...[...this.lives.values()].map(live => live.link)]; }
 
@@ -272,7 +272,7 @@ class Session {
   }
 
   follow(key) {
-    const live = { since: Infinity, touched: new Set(), fewer: false };
+    const live = { since: Infinity, touched: new Set() };
     this.lives.set(key, live);
     live.link = this.open(frame => this.heard(key, live, frame));
     live.link.send("WITHIN", key, "FENCE", "DETECT", "inside", "BOUNDS", -WORLD, -WORLD, WORLD, WORLD);
@@ -296,30 +296,33 @@ class Session {
     moves++;
     if (told.command === "set") return put(key, told.id, told.object, told.fields);
     live.fewer = true;
+    live.none ||= told.command === "drop";
     told.command === "drop" ? objects.delete(key) : objects.get(key)?.delete(told.id);
     redraw();
   }
 
-  // Reads all objects of a key. What the live fence tells meanwhile is newer. Where objects go while pages come, a
-  // page may lack one: then it reads once more.
+  // Reads all objects of a key. What the live fence tells meanwhile is newer. Where the key goes, or objects go while
+  // several pages come, of which one may lack another object then, it is read once more.
   async scan(key, live) {
-    let found, cursor = 0, limit = 2000, tries = 3;
-    do {
+    let found, cursor = 0, limit = 2000, tries = 3, again = true;
+    while (cursor || again && tries-- > 0) {
       if (!cursor) {
         found = new Map();
         live.touched.clear();
-        live.fewer = false;
+        live.fewer = live.none = false;
       }
       const page = await this.asks.ask("SCAN", key, "CURSOR", cursor, "LIMIT", limit);
       if (this.lives.get(key) !== live) return;
-      if (page instanceof Refusal && limit > 1) limit >>= 1;    // the reply is too long
-      else if (refused(page)) return;
-      else {
-        for (const [id, ...it] of page[1]) found.set(id, it);
-        cursor = page[0];
-        if (!cursor && (!live.fewer || found.size < limit || !--tries)) break;
+      if (page instanceof Refusal && limit > 1) {
+        limit >>= 1;    // the reply is too long
+        tries += cursor ? 0 : 1;
+        continue;
       }
-    } while (true);
+      if (refused(page)) return;
+      for (const [id, ...it] of page[1]) found.set(id, it);
+      cursor = page[0];
+      again = live.none || live.fewer && found.size > page[1].length;
+    }
     const ids = objects.get(key) || new Map();
     for (const id of ids.keys()) if (!found.has(id) && !live.touched.has(id)) ids.delete(id);
     for (const [id, [text, fields]] of found) {
@@ -335,9 +338,7 @@ class Session {
     if (it.detect === "roam") it.detect = it.nearby ? "nearby" : "faraway";
     const quiet = ["inside", "outside"].includes(it.detect);
     if (quiet && !element("quiet").checked) return;
-    events.push(it);
-    if (events.length > 5000) events.splice(0, 1000);
-    fresh.push(it);
+    for (const list of [events, fresh]) list.push(it) > 5000 && list.splice(0, 1000);
     if (!areas.has(it.hook)) this.look();
     const flash = { text: it.detect || it.command, until: it.at + FLASH };
     for (const lit of [areas.get(it.hook), objects.get(it.key)?.get(it.id)]) if (lit && !quiet) lit.flash = flash;
@@ -360,8 +361,8 @@ async function about() {
   if (picked?.[1] !== id || refused(reply)) return;
   const it = objects.get(key)?.get(id);
   if (it && reply) it.fields = fieldsOf(reply[1]);
-  const place = reply && it ? `at x ${it.x}, y ${it.y}: ${wordsOf(it.fields) || "no fields"}` : "is gone";
-  show("about", `${id} of ${key} ${place}.`);
+  const place = it ? `at x ${it.x}, y ${it.y}` : "(not shown)";
+  show("about", `${id} of ${key} ${reply ? `${place}: ${wordsOf(fieldsOf(reply[1])) || "no fields"}` : "is gone"}.`);
   redraw();
 }
 
@@ -371,16 +372,17 @@ function listKeys() {
   if (list.dataset.names === text) return;
   list.dataset.names = text;
   list.replaceChildren(...names.map(key => {
-    const label = document.createElement("label"), box = document.createElement("input");
+    const [label, box, mark] = ["label", "input", "span"].map(it => document.createElement(it));
     Object.assign(box, { type: "checkbox", checked: keys.get(key) });
+    mark.textContent = " \u25a0 ";
+    mark.style.color = colourOf(key);
     box.onchange = () => {
       keys.set(key, box.checked);
       if (!box.checked) session.leave(key);
       session.look();
       redraw();
     };
-    label.style.color = colourOf(key);
-    label.append(box, ` ${key}`);
+    label.append(box, mark, key);
     return label;
   }));
 }
