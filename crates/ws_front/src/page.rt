@@ -85,7 +85,7 @@ Drag with Shift for an area.</p>
 const WORLD = 1e9;    // coordinates go so far either way
 const FOLLOWED = 8;   // so many keys are followed unasked, each over a connection of its own
 const LINES = 200;    // of the log
-const WORDS = 120;    // so many texts are written on the map at most
+const WORDS = 80;     // so many texts are written on the map at most
 const LOOK = 2000, RETRY = 1000, LOST = 10000, FLASH = 2500;    // milliseconds
 const COLOURS = ["#0072b2", "#d55e00", "#009e73", "#cc79a7"];
 // Patterns of the names of all channels but those of live fences, which begin with "live/": "[^l]*", "l", "l[^i]*" ..
@@ -489,18 +489,17 @@ function write(text, left, top, colour) {
   pen.fillText(text, left, top);
 }
 
-// What has just happened is drawn in a colour, with a ring that is dashed at an exit, and in words.
+// What has just happened is drawn in a colour, with a ring, which is a square at an exit, and in words.
 function drawObject(key, id, it, now, colour, named) {
   const left = it.flash?.until - now, lit = left > 0, chosen = picked?.[0] === key && picked[1] === id;
   const [x, y] = [across(it.x), down(it.y)];
   paint(it.shapes, colour, 2, .2);
   if (lit || chosen) {
     Object.assign(pen, { strokeStyle: lit && ink[it.flash.text] || ink.ink, lineWidth: 3 });
-    pen.setLineDash(lit && it.flash.text === "exit" ? [5, 4] : []);
     pen.beginPath();
-    pen.arc(x, y, 11, 0, 7);
+    if (lit && it.flash.text === "exit") pen.rect(x - 10, y - 10, 20, 20);
+    else pen.arc(x, y, 11, 0, 7);
     pen.stroke();
-    pen.setLineDash([]);
   }
   if (left > FLASH / 2 || chosen || named) write(lit ? `${id}: ${it.flash.text}` : id, x + 9, y - 5, ink.ink);
   if (chosen || named > 1) write(wordsOf(it.fields), x + 9, y + 9, ink.soft);
