@@ -32,8 +32,8 @@ serve() {
     until [ "$(redis-cli -p "$2" PING 2>/dev/null)" = PONG ]; do sleep 0.2; done
 }
 
-./fudrask load 1 1 >/dev/null
-serve "$PWD/crates/tile_server/out/tile_server" "$port"
+[ -n "${PROGRAM:-}" ] || ./fudrask load 1 1 >/dev/null
+serve "$(realpath "${PROGRAM:-crates/tile_server/out/tile_server}")" "$port"
 redis-server --port "$redis_port" --save '' --appendonly no --daemonize no >"$work/theirs" 2>&1 &
 running+=($!)
 until [ "$(redis-cli -p "$redis_port" PING 2>/dev/null)" = PONG ]; do sleep 0.2; done

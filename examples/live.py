@@ -53,7 +53,7 @@ def main():
         try:
             while True:
                 print(frame(link).decode(errors="replace"), flush=True)
-        except EOFError:
+        except (EOFError, ConnectionError, KeyboardInterrupt):
             pass
 
 
