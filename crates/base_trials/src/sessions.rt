@@ -25,18 +25,16 @@ fn subscriptions_are_counted(rt: HostRuntime) -> Result<(), Fail> {
     assert!(rt; !subscriptions.is_held(&all, false));
     assert_eq!(rt; subscriptions.at(1).word().bytes(), b"*".as_slice());
     assert!(rt; subscriptions.at(2).is_pattern());
-    subscriptions.cut_to(2);
-    assert_eq!(rt; subscriptions.len(), 2);
-    assert!(rt; !subscriptions.is_held(&z, true));
+    assert_eq!(rt; subscriptions.len(), 3);
     subscriptions.clear();
     assert_eq!(rt; subscriptions.len(), 0);
     Ok(())
 }
 
-// As many as there may be, each a name of two characters, from `AA` on.
-fn full(alloc: Global) -> Result<Subscriptions, Fail> {
+// One less than there may be, each a name of two characters, from `AA` on.
+fn nearly_full(alloc: Global) -> Result<Subscriptions, Fail> {
     let mut subscriptions = Subscriptions::new(alloc);
-    for i in 0..MAX_SUBS {
+    for i in 0..MAX_SUBS - 1 {
         let word = name(alloc, &[b'A' + (i % 32) as u8, b'A' + (i / 32) as u8])?;
         subscriptions.subscribe(alloc, &word, false).ok();
     }
@@ -47,14 +45,14 @@ fn full(alloc: Global) -> Result<Subscriptions, Fail> {
 fn there_are_no_more_than_the_most(rt: HostRuntime) -> Result<(), Fail> {
     let alloc = rt.alloc();
     let first = name(alloc, b"AA")?;
-    let mut subscriptions = full(alloc)?;
+    let mut subscriptions = nearly_full(alloc)?;
+    assert_eq!(rt; subscriptions.subscribe(alloc, &first, true), Ok(1024));
     assert_eq!(rt; subscriptions.subscribe(alloc, &first, false), Ok(1024));
+    let last = name(alloc, b"last")?;
     assert_eq!(rt;
-        subscriptions.subscribe(alloc, &first, true),
+        subscriptions.subscribe(alloc, &last, true),
         Err(SubscribeFault::TooMany)
     );
-    subscriptions.cut_to(1023);
-    assert_eq!(rt; subscriptions.subscribe(alloc, &first, true), Ok(1024));
     Ok(())
 }
 

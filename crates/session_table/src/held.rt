@@ -2,7 +2,7 @@
 //!
 //! Subscriptions stand with their session, so no list of sessions by number is needed beside those that are present.
 
-ghost use Rattle.std.specs.Prelude.{◌≡◌, ◌<◌, ◌≤◌, ◌↔◌, ◌++◌, ◌∷◌, [], length, take, slice_get, Some, Err, IfOk, OnOk};
+ghost use Rattle.std.specs.Prelude.{◌≡◌, ◌<◌, ◌≤◌, ◌↔◌, ◌++◌, ◌∷◌, [], length, slice_get, Some, Err, IfOk, OnOk};
 ghost use Rattle.std.specs.Prelude.{OnErr};
 ghost use Rattle.std.specs.List.{list_any};
 ghost use Rattle.world_data.specs.Limits.{max_subs};
@@ -191,14 +191,6 @@ impl Subscriptions {
         let word = word.copy(alloc)?;
         self.held.push_reserved(Subscription { word, pattern });
         Ok(())
-    }
-
-    /// Keeps the first `count` of them, all where there are no more. So those of a call are taken back that cannot be
-    /// whole. It takes no memory.
-    pub fn cut_to(&mut self, count: usize)
-        ensures { self.new ≡ take count self.old }
-    {
-        self.held.truncate(count);
     }
 
     /// Takes all of them away. It takes no memory.
