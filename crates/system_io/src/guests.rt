@@ -112,6 +112,11 @@ impl Guest {
         }
     }
 
+    /// Whether it was waited for so long that another may have its place.
+    pub(crate) fn may_go(&self, look: &Look<'_>) -> bool {
+        look.is_late(self.since)
+    }
+
     /// Goes on with it as far as it can.
     pub(crate) fn step(self, look: &Look<'_>) -> Step {
         let Guest {
@@ -140,7 +145,7 @@ fn wait_on(look: &Look<'_>, stream: TcpStream, since: Option<Instant>, stage: St
     })
 }
 
-// A caller who does not speak HTTP, or says nothing: it is let in where plain links are.
+// A caller who does not speak HTTP is let in where plain links are.
 fn let_in_plain(look: &Look<'_>, stream: TcpStream) -> Step {
     match look.kinds {
         Kinds::Plain | Kinds::Both => Step::Came(Line::Plain(stream)),
@@ -157,11 +162,20 @@ fn hear_first(look: &Look<'_>, stream: TcpStream, since: Option<Instant>) -> Ste
         Ok(_) if first == *b"G" => hear_head(look, stream, since, Vec::new(look.alloc)),
         Ok(_) => let_in_plain(look, stream),
         Err(error) if error.kind() != ErrorKind::WouldBlock => Step::Gone,
-        Err(_) if look.is_late(since) => match look.kinds {
-            Kinds::Web => Step::Gone,
-            Kinds::Plain | Kinds::Both => Step::Came(Line::Plain(stream)),
-        },
-        Err(_) => wait_on(look, stream, since, Stage::Unheard),
+        Err(_) => hear_nothing(look, stream, since),
+    }
+}
+
+// Nothing came yet. Pools of plain links, and browsers, open links that they use later, so where links of both kinds are
+// let in such a caller waits for as long as there is room.
+fn hear_nothing(look: &Look<'_>, stream: TcpStream, since: Option<Instant>) -> Step {
+    match look.kinds {
+        Kinds::Web => wait_on(look, stream, since, Stage::Unheard),
+        Kinds::Plain | Kinds::Both => Step::Stays(Guest {
+            stream,
+            since,
+            stage: Stage::Unheard,
+        }),
     }
 }
 

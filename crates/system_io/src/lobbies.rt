@@ -11,7 +11,8 @@ use std::collections::VecDeque;
 use std::io;
 use std::os::fd::AsRawFd;
 
-/// The most callers who wait: where there are so many the door looks for no further one.
+/// The most callers who wait: where there are so many, one who came is let in only in the place of one who has long been
+/// silent.
 const MOST_GUESTS: usize = 1_024;
 
 /// The token of a door, and of those who are not let in by it yet.
@@ -59,10 +60,18 @@ impl Lobby {
         }
     }
 
+    // Lets go the one who has waited longest, where that was long enough.
+    fn make_room(&mut self, at: &Look<'_>) -> bool {
+        match self.guests.front() {
+            Some(guest) if guest.may_go(at) => self.guests.pop_front().is_some(),
+            _ => false,
+        }
+    }
+
     // Looks for callers as long as some come and there is room.
     fn take_in(&mut self, listener: &TcpListener, at: &Look<'_>) -> Result<(), NoListener> {
         for _ in 0..MOST_LOST {
-            if self.guests.len() >= MOST_GUESTS {
+            if self.guests.len() >= MOST_GUESTS && !self.make_room(at) {
                 return Ok(());
             }
             match look(listener) {

@@ -18,6 +18,9 @@ use tungstenite::{Error, Message, NoMask, Role, WebSocket, WebSocketConfig};
 /// The most bytes of a message: those of all words of a request, and the longest heads of the request and of each word.
 pub const MAX_MESSAGE: usize = MAX_REQUEST + 12 * MAX_WORDS + 7;
 
+/// So many bytes one read of the stream asks for. Each WebSocket keeps twice the room.
+const READ_ROOM: usize = 16_384;
+
 /// The limits of a WebSocket of the server. Frames without a mask are refused.
 pub fn limits() -> WebSocketConfig
     ensures message { result.max_message_size ≡ Some (max_request + 12 * max_words + 7) }
@@ -25,6 +28,7 @@ pub fn limits() -> WebSocketConfig
     ensures masks { result.accept_unmasked_frames ≡ false }
 {
     WebSocketConfig::default()
+        .read_buffer_size(READ_ROOM)
         .max_message_size(Some(MAX_MESSAGE))
         .max_frame_size(Some(MAX_MESSAGE))
 }
