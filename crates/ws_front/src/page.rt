@@ -85,9 +85,9 @@ Drag with Shift for an area.</p>
 const WORLD = 1e9;    // coordinates go so far either way
 const FOLLOWED = 8;   // so many keys are followed unasked, each over a connection of its own
 const LINES = 200;    // of the log
-const WORDS = 80;     // so many texts are written on the map at most
+const WORDS = 60;     // so many texts are written on the map at most
 const LOOK = 2000, RETRY = 1000, LOST = 10000, FLASH = 2500;    // milliseconds
-const COLOURS = ["#0072b2", "#d55e00", "#009e73", "#cc79a7"];
+const COLOURS = ["#1a86c8", "#d55e00", "#009e73", "#cc79a7"];
 // Patterns of the names of all channels but those of live fences, which begin with "live/": "[^l]*", "l", "l[^i]*" ..
 const NAMES = [..."live/"].map((letter, at) => ["live/".slice(0, at), letter])
   .flatMap(([front, letter]) => [front, `${front}[^${letter}]*`]).slice(1);
@@ -426,7 +426,7 @@ const isSeen = ({ box: [left, bottom, right, top] }) =>
   across(left) <= width && across(right) >= 0 && down(top) <= height && down(bottom) >= 0;
 const all = () => [...areas.values(), ...[...objects.values()].flatMap(ids => [...ids.values()])];
 
-// Where a picture takes long, the next one waits twice as long, so that messages need not.
+// Where a picture takes long, the next one waits three times as long, so that messages need not.
 function redraw() {
   if (!due) setTimeout(requestAnimationFrame, pause, draw);
   due = true;
@@ -489,20 +489,24 @@ function write(text, left, top, colour) {
   pen.fillText(text, left, top);
 }
 
-// What has just happened is drawn in a colour, with a ring, which is a square at an exit, and in words.
+// What has just happened is drawn in a colour, as a square that is full where it enters, and in words.
 function drawObject(key, id, it, now, colour, named) {
   const left = it.flash?.until - now, lit = left > 0, chosen = picked?.[0] === key && picked[1] === id;
   const [x, y] = [across(it.x), down(it.y)];
+  if (lit) {
+    pen.fillStyle = pen.strokeStyle = ink[it.flash.text] || ink.ink;
+    pen.lineWidth = 3;
+    it.flash.text === "enter" ? pen.fillRect(x - 9, y - 9, 18, 18) : pen.strokeRect(x - 9, y - 9, 18, 18);
+  }
   paint(it.shapes, colour, 2, .2);
-  if (lit || chosen) {
-    Object.assign(pen, { strokeStyle: lit && ink[it.flash.text] || ink.ink, lineWidth: 3 });
+  if (chosen) {
+    pen.strokeStyle = ink.ink;
     pen.beginPath();
-    if (lit && it.flash.text === "exit") pen.rect(x - 10, y - 10, 20, 20);
-    else pen.arc(x, y, 11, 0, 7);
+    pen.arc(x, y, 12, 0, 7);
     pen.stroke();
   }
-  if (left > FLASH / 2 || chosen || named) write(lit ? `${id}: ${it.flash.text}` : id, x + 9, y - 5, ink.ink);
-  if (chosen || named > 1) write(wordsOf(it.fields), x + 9, y + 9, ink.soft);
+  if (left > FLASH / 2 || chosen || named) write(lit ? `${id}: ${it.flash.text}` : id, x + 11, y - 5, ink.ink);
+  if (chosen || named > 1) write(wordsOf(it.fields), x + 11, y + 9, ink.soft);
 }
 
 function drawArea(name, { shapes, box, flash }, now) {
@@ -515,7 +519,7 @@ function draw() {
   due = false;
   words = 0;
   const now = Date.now(), start = performance.now(), things = all();
-  setTimeout(() => { pause = Math.min(2 * (performance.now() - start), 100); });
+  setTimeout(() => { pause = Math.min(3 * (performance.now() - start), 150); });
   if (!view.steered && (things.length !== view.count || !things.every(isIn))) fit();
   view.count = things.length;
   pen.setTransform(devicePixelRatio, 0, 0, devicePixelRatio, 0, 0);
