@@ -12,11 +12,7 @@ use std::test::Fail;
 use system_io::{FolderDisk, PollDoor, PollLink, PollWait, StdinSource, StdoutSink, WallClock};
 
 // A door for links of these kinds at a port of this machine.
-fn door_for(
-    rt: &HostRuntime,
-    addr: &str,
-    kinds: Kinds,
-) -> Result<PollDoor<HostRuntime>, Failed> {
+fn door_for(rt: &HostRuntime, addr: &str, kinds: Kinds) -> Result<PollDoor<HostRuntime>, Failed> {
     let mut door = PollDoor::new(*rt, rt.alloc());
     let port = Port {
         addr,
@@ -84,11 +80,31 @@ fn a_link_carries_bytes_both_ways_up_to_its_end(rt: HostRuntime) -> Result<(), F
 const UPGRADE: &[u8] = b"GET / HTTP/1.1\r\nHost: a\r\nConnection: Upgrade\r\nUpgrade: websocket\r\n\
     Sec-WebSocket-Version: 13\r\nSec-WebSocket-Key: dGhlIHNhbXBsZSBub25jZQ==\r\n";
 
-const UPGRADED: &[u8] = b"HTTP/1.1 101 Switching Protocols\r\nUpgrade: websocket\r\nConnection: Upgrade\r\n\
+const UPGRADED: &[u8] =
+    b"HTTP/1.1 101 Switching Protocols\r\nUpgrade: websocket\r\nConnection: Upgrade\r\n\
     Sec-WebSocket-Accept: s3pPLMBiTxaQ9kYGzzhZRbK+xOo=\r\n\r\n";
 
-// A masked binary message of one PING.
-const PING: &[u8] = b"\x82\x8e\x00\x00\x00\x00*1\r\n$4\r\nPING\r\n";
+// The rest of that request, and a masked binary message of one PING.
+const ORIGIN_AND_PING: &[u8] = b"Origin: http://map.example\r\n\r\n\
+    \x82\x8e\x00\x00\x00\x00*1\r\n$4\r\nPING\r\n";
+
+// Looks at a door until somebody is let in, or for a while nobody is named.
+fn let_in(
+    door: &mut PollDoor<HostRuntime>,
+    wait: &mut PollWait<HostRuntime>,
+) -> Result<PollLink, Failed> {
+    for _ in 0..100u32 {
+        match door.accept() {
+            Ok(Caller::Came(link)) => return Ok(link),
+            Ok(Caller::Later) => {}
+            _ => return Err(Failed),
+        }
+        if wait.wait(100) == Ok(0) {
+            return Err(Failed);
+        }
+    }
+    Err(Failed)
+}
 
 // Whether these bytes are the next that come to a caller.
 fn comes(caller: &mut TcpStream, bytes: &[u8]) -> Result<bool, Fail> {
@@ -98,10 +114,11 @@ fn comes(caller: &mut TcpStream, bytes: &[u8]) -> Result<bool, Fail> {
     Ok(into.starts_with(bytes))
 }
 
-// What a door answers itself to a caller who says this begins so.
+// Whether a door does not let in a caller who says this, and answers him so.
 fn is_answered(
     rt: &HostRuntime,
     door: &mut PollDoor<HostRuntime>,
+    wait: &mut PollWait<HostRuntime>,
     addr: &str,
     says: &[&[u8]],
     answer: &[u8],
@@ -109,36 +126,51 @@ fn is_answered(
     let mut caller = TcpStream::connect(rt, addr)?;
     for piece in says {
         caller.write_all(piece)?;
-        if !matches!(door.accept(), Ok(Caller::Later)) {
+        if let_in(door, wait).is_ok() {
             return Ok(false);
         }
     }
     comes(&mut caller, answer)
 }
 
+// A watched door for links of these kinds at a port of this machine.
+fn watched_for(
+    rt: &HostRuntime,
+    addr: &str,
+    kinds: Kinds,
+) -> Result<(PollDoor<HostRuntime>, PollWait<HostRuntime>), Fail> {
+    let mut door = door_for(rt, addr, kinds)?;
+    let mut wait = PollWait::new(*rt, rt.alloc())?;
+    wait.watch_door(&mut door)?;
+    Ok((door, wait))
+}
+
 #[test]
 fn a_door_for_both_kinds_tells_them_apart(rt: HostRuntime) -> Result<(), Fail> {
     let addr = "127.0.0.1:39414";
-    let mut door = door_for(&rt, addr, Kinds::Both)?;
-    let mut wait = PollWait::new(rt, rt.alloc())?;
-    assert_eq!(rt; wait.watch_door(&mut door), Ok(()));
+    let (mut door, mut wait) = watched_for(&rt, addr, Kinds::Both)?;
     let silent = TcpStream::connect(&rt, addr)?;
-    assert!(rt; matches!(door.accept(), Ok(Caller::Later)));
     let mut plain = TcpStream::connect(&rt, addr)?;
-    assert!(rt; is_named(&mut wait, Named::Door));
-    assert!(rt; matches!(door.accept(), Ok(Caller::Later)));
+    assert!(rt; let_in(&mut door, &mut wait).is_err());
     plain.write_all(b"*1")?;
-    assert!(rt; is_named(&mut wait, Named::Door));
-    let mut link = accepted(&mut door)?;
+    let mut link = let_in(&mut door, &mut wait)?;
     assert_eq!(rt; wait.watch(&mut link, 7), Ok(()));
     assert!(rt; is_named(&mut wait, Named::Link(7)));
     assert_eq!(rt; link.read(&mut [b'.'; 4]), Ok(Got::Bytes(2)));
-    let page = [b"GET / HTTP/1.1\r\nHost: a\r\n\r\n".as_slice()];
-    assert!(rt; is_answered(&rt, &mut door, addr, &page, b"HTTP/1.1 200 OK\r\n")?);
-    let other = [b"GET /x HTTP/1.1\r\n".as_slice(), b"\r\n".as_slice()];
-    assert!(rt; is_answered(&rt, &mut door, addr, &other, b"HTTP/1.1 404 Not Found\r\n")?);
-    let strange = [UPGRADE, b"Origin: http://evil.example\r\n\r\n".as_slice()];
-    assert!(rt; is_answered(&rt, &mut door, addr, &strange, b"HTTP/1.1 403 Forbidden\r\n")?);
+    let strange = b"Origin: http://evil.example\r\n\r\n".as_slice();
+    for (says, answer) in [
+        (
+            [b"GET / HTTP/1.1\r\n".as_slice(), b"\r\n"],
+            b"HTTP/1.1 200 OK\r\n".as_slice(),
+        ),
+        (
+            [b"GET /x HTTP/1.1\r\n", b"\r\n"],
+            b"HTTP/1.1 404 Not Found\r\n",
+        ),
+        ([UPGRADE, strange], b"HTTP/1.1 403 Forbidden\r\n"),
+    ] {
+        assert!(rt; is_answered(&rt, &mut door, &mut wait, addr, says.as_slice(), answer)?);
+    }
     drop(silent);
     Ok(())
 }
@@ -146,15 +178,15 @@ fn a_door_for_both_kinds_tells_them_apart(rt: HostRuntime) -> Result<(), Fail> {
 #[test]
 fn a_web_socket_is_a_link(rt: HostRuntime) -> Result<(), Fail> {
     let addr = "127.0.0.1:39415";
-    let mut door = door_for(&rt, addr, Kinds::Web)?;
+    let (mut door, mut wait) = watched_for(&rt, addr, Kinds::Web)?;
     let plain = [b"*1\r\n$4\r\nPING\r\n".as_slice()];
-    assert!(rt; is_answered(&rt, &mut door, addr, &plain, b"HTTP/1.1 400 Bad Request\r\n")?);
+    let refusal = b"HTTP/1.1 400 Bad Request\r\n".as_slice();
+    assert!(rt; is_answered(&rt, &mut door, &mut wait, addr, plain.as_slice(), refusal)?);
     let mut caller = TcpStream::connect(&rt, addr)?;
     caller.write_all(UPGRADE)?;
-    assert!(rt; matches!(door.accept(), Ok(Caller::Later)));
-    caller.write_all(b"Origin: http://map.example\r\n\r\n")?;
-    caller.write_all(PING)?;
-    let mut link = accepted(&mut door)?;
+    assert!(rt; let_in(&mut door, &mut wait).is_err());
+    caller.write_all(ORIGIN_AND_PING)?;
+    let mut link = let_in(&mut door, &mut wait)?;
     assert!(rt; comes(&mut caller, UPGRADED)?);
     let mut into = [b'.'; 64];
     assert_eq!(rt; link.read(&mut into), Ok(Got::Bytes(14)));
