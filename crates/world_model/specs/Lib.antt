@@ -28,3 +28,4 @@ pub mod PrefixLaws
 pub mod SoundLaws
 pub mod TableParts
 pub mod SessionLaws
+pub mod Entries
