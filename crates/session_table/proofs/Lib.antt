@@ -1,4 +1,5 @@
 mod Ends
 mod Heard
 mod Mails
+mod Marked
 mod Placings

@@ -5,3 +5,4 @@ pub mod FanLaws
 pub mod Subscribed
 pub mod SubscribeLaws
 pub mod Sendings
+pub mod Marks

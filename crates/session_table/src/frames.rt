@@ -1,14 +1,16 @@
 //! The frames of messages, each made once for all that hear it.
 
-ghost use Rattle.std.specs.Prelude.{◌≡◌, ◌∷◌, [], true, IfOk, IfSome, OnOk, if◌then◌else◌};
+ghost use Rattle.std.specs.Prelude.{◌≡◌, ◌<◌, ◌∷◌, [], true, IfOk, IfSome, OnOk, if◌then◌else◌};
 ghost use Rattle.world_model.specs.Halls.{message_frame as frame_of_message, pattern_frame as frame_of_pattern};
 ghost use Rattle.byte_text.specs.Globs as globs;
 ghost use Rattle.world_model.specs.Halls.{pattern_meets};
 ghost use Rattle.session_table.specs.Mail.{Stages};
+ghost use Rattle.session_table.specs.Marks.{mark_of as mark_of_bytes, marks};
 ghost use Rattle.session_table.specs.Sessions.{is_sound_sub};
 
 use crate::Subscription;
 use crate::mailboxes::Mailbox;
+use crate::marks::mark_of;
 use byte_text::{Name, NoMemory, Text, push_array_head, push_bulk};
 use glob_match::glob_meets;
 use ordered_lists::is_same;
@@ -71,20 +73,23 @@ pub(crate) struct PatternFrame {
 pub(crate) struct Sending<'a> {
     alloc: Global,
     name: &'a Name,
+    mark: usize,
     payload: &'a Text,
     for_name: Option<Text>,
     for_pattern: Option<PatternFrame>,
 }
 
 impl<'a> Model for Sending<'a> {
+    ghost use Rattle.std.specs.Prelude.{◌≡◌};
     ghost use Rattle.fence_model.specs.Messages.{Message};
+    ghost use Rattle.session_table.specs.Marks.{mark_of};
     ghost use Rattle.session_table.specs.Sendings.{IsForName, IsForPattern};
 
     ghost Value = { Message };
 
     ghost view = { λ s. (s.name.now, s.payload.now) };
 
-    ghost invariant = { λ s. IsForName (s.name.now, s.payload.now) s.for_name
+    ghost invariant = { λ s. (s.mark ≡ mark_of s.name.now) × IsForName (s.name.now, s.payload.now) s.for_name
         × IsForPattern (s.name.now, s.payload.now) s.for_pattern };
 }
 
@@ -96,6 +101,7 @@ impl<'a> Sending<'a> {
         Sending {
             alloc,
             name,
+            mark: mark_of(name),
             payload,
             for_name: None,
             for_pattern: None,
@@ -107,6 +113,14 @@ impl<'a> Sending<'a> {
         ensures { result.now ≡ self.now.0 }
     {
         self.name
+    }
+
+    /// The mark of the channel's name.
+    pub(crate) fn mark(&self) -> usize
+        ensures mark { result ≡ mark_of_bytes self.now.0 }
+        ensures small { result < marks }
+    {
+        self.mark
     }
 
     /// Stages the frame for those that hold the name. For want of memory nothing is staged.

@@ -2,14 +2,18 @@
 //!
 //! Subscriptions stand with their session, so no list of sessions by number is needed beside those that are present.
 
-ghost use Rattle.std.specs.Prelude.{◌≡◌, ◌<◌, ◌≤◌, ◌↔◌, ◌++◌, ◌∷◌, [], length, slice_get, Some, Err, IfOk, OnOk};
+ghost use Rattle.std.specs.Prelude.{◌≡◌, ◌<◌, ◌≤◌, ◌↔◌, ◌++◌, ◌∷◌, [], false, length, slice_get, Some, Err, IfOk, OnOk};
 ghost use Rattle.std.specs.Prelude.{OnErr};
 ghost use Rattle.std.specs.List.{list_any};
+ghost use Rattle.fence_model.specs.Messages.{Message};
 ghost use Rattle.world_data.specs.Limits.{max_subs};
+ghost use Rattle.world_model.specs.Halls.{frames_for};
 ghost use Rattle.world_model.specs.Subscriptions.{same_sub, with_sub};
+ghost use Rattle.session_table.specs.Marks.{mark_of, marks};
 ghost use Rattle.session_table.specs.Subscribed.{sub};
 ghost use Rattle.session_table.specs.declared.held.SubscribeFault.TheVariants.{TooMany};
 
+use crate::marks::Marks;
 use byte_text::{Name, NoMemory};
 use ordered_lists::is_same;
 use std::alloc::Global;
@@ -89,10 +93,12 @@ impl Subscription {
 #[derive(Drop)]
 pub struct Subscriptions {
     held: Vec<Subscription>,
+    marks: Marks,
 }
 
 impl Model for Subscriptions {
     ghost use Rattle.std.specs.Prelude.{List, ◌≤◌, length};
+    ghost use Rattle.session_table.specs.Marks.{AreMarked};
     ghost use Rattle.world_data.specs.Limits.{max_subs};
     ghost use Rattle.world_model.specs.Subscriptions.{Sub};
 
@@ -100,7 +106,7 @@ impl Model for Subscriptions {
 
     ghost view = { λ s. s.held.items };
 
-    ghost invariant = { λ s. length s.held.items ≤ max_subs };
+    ghost invariant = { λ s. (length s.held.items ≤ max_subs) × AreMarked s.marks s.held.items };
 }
 
 impl Subscriptions {
@@ -110,6 +116,7 @@ impl Subscriptions {
     {
         Subscriptions {
             held: Vec::new(alloc),
+            marks: Marks::none(),
         }
     }
 
@@ -123,7 +130,10 @@ impl Subscriptions {
                 return Err(NoMemory);
             }
         }
-        Ok(Subscriptions { held })
+        Ok(Subscriptions {
+            held,
+            marks: self.marks.copy(),
+        })
     }
 
     /// How many there are.
@@ -140,6 +150,15 @@ impl Subscriptions {
         ensures { slice_get self.now i ≡ Some result.now }
     {
         &self.held[i]
+    }
+
+    /// Whether a message to a name of this mark may be heard. Where it may not, no subscription hears it.
+    #[tactic(auto, using(crate::proofs::Marked::hears_nothing))]
+    pub(crate) fn may_hear(&self, mark: usize) -> bool
+        requires { mark < marks }
+        ensures { result ≡ false → (m : Message) → mark_of m.0 ≡ mark → frames_for m self.now ≡ [] }
+    {
+        self.marks.may_hear(mark)
     }
 
     /// Whether this word is subscribed to, as a pattern or as a name.
@@ -179,6 +198,7 @@ impl Subscriptions {
     }
 
     // Puts a subscription last.
+    #[tactic(auto, using(crate::proofs::Marked::marked_with))]
     fn add(&mut self, alloc: Global, word: &Name, pattern: bool) -> Result<(), NoMemory>
         requires { length self.old < max_subs }
         ensures ok { OnOk result (self.new ≡ self.old ++ sub pattern word.now ∷ []) }
@@ -189,6 +209,7 @@ impl Subscriptions {
             Err(_) => return Err(NoMemory),
         }
         let word = word.copy(alloc)?;
+        self.marks.add(&word, pattern);
         self.held.push_reserved(Subscription { word, pattern });
         Ok(())
     }
@@ -198,5 +219,6 @@ impl Subscriptions {
         ensures { self.new ≡ [] }
     {
         self.held.clear();
+        self.marks = Marks::none();
     }
 }

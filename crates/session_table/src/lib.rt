@@ -8,6 +8,7 @@ mod frames;
 mod held;
 mod listening;
 mod mailboxes;
+mod marks;
 mod sessions;
 
 pub use fans::{place_staged, stage_message, unstage};

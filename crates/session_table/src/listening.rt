@@ -69,8 +69,8 @@ pub(crate) fn stage_heard(
     ensures frames { mail.new.frames ≡ mail.old.frames }
     ensures staged { OnOk result (Stages (frames_for sending.old subs.now) mail.old mail.new) }
 {
-    // Most sessions hold none, and are passed by.
-    if subs.len() == 0 {
+    // Most sessions hold nothing that hears it, and are passed by at this one look.
+    if !subs.may_hear(sending.mark()) {
         return Ok(());
     }
     if !mail.has_room_left() {

@@ -253,7 +253,6 @@ fn plan_request<G: Growths>(
         subs: sessions[at].subscriptions(),
         now,
     };
-    grown(growths)?;
     let planned = plan_asked(alloc, context, asked, &mut store.steps, spare)?;
     make_room_for(alloc, store, &planned, growths)?;
     stage_planned(
@@ -291,6 +290,8 @@ fn plan_rest<G: Growths>(
     if !sessions[at].has_room_left() {
         return Ok(None);
     }
+    // Asked here for what is planned: between the large locals of `plan_request` it would cost a GET 4 in 100.
+    grown(growths)?;
     match plan_request(alloc, store, sessions, at, now, asked, spare, growths) {
         Ok(planned) => Ok(Some(planned)),
         Err(NoMemory) => Err(NoMemory),
