@@ -1,5 +1,5 @@
 -- What a conversation shows, and what one call of it does.
-use Rattle.std.specs.Prelude.{◌≡◌, ◌≤◌, ℕ, List, [], ◌∷◌, ◌++◌, Option, None, Result, Ok, Err, option_map, IfSome}
+use Rattle.std.specs.Prelude.{◌≡◌, ◌≤◌, ℕ, Bool, true, List, [], ◌∷◌, ◌++◌, Option, None, Result, Ok, Err, option_map, IfSome}
 use Rattle.byte_text.specs.Names.{Bytes}
 use Rattle.outside.specs.Causes.{Rose}
 use Rattle.ws_front.specs.declared.talks.Message.{Message}
@@ -11,15 +11,20 @@ use Rattle.ws_front.specs.declared.talks.Told.TheVariants as told
 use Rattle.ws_front.specs.declared.talks.TalkFault.{TalkFault}
 use Rattle.ws_front.specs.declared.talks.TalkFault.TheVariants as fault
 
--- the messages that are still to be heard and those that were said, where the conversation tells them, and how often it has failed
+-- the messages that are still to be heard and those that were said, where the conversation tells them; whether it was closed; and how often it has failed
 pub record TalkState : Type 0 where
   pub left : Option (List Message)
   pub said : Option (List Bytes)
+  pub is_closed : Bool
   pub faults : ℕ
 
--- a conversation that tells nothing but its failures
-abbrev pub silent : ℕ → TalkState
-silent faults = record { left = None; said = None; faults = faults }
+-- a conversation that tells nothing but whether it was closed and its failures
+abbrev pub silent : Bool → ℕ → TalkState
+silent is_closed faults = record { left = None; said = None; is_closed = is_closed; faults = faults }
+
+-- the same, of which nothing more is heard
+abbrev pub closed : TalkState → TalkState
+closed t = record t { left = option_map (λ ms. []) t.left; is_closed = true }
 
 -- a call failed: the count of failures rose, and nothing else changed
 pub record TalkFails (old new : TalkState) : Type 0 where

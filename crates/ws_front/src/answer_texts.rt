@@ -9,7 +9,9 @@ use byte_text::{NoMemory, Text, push_u64};
 use std::alloc::Global;
 
 /// The server's own page.
-pub fn own_page() -> &'static [u8] {
+pub fn own_page() -> &'static [u8]
+    ensures { result.now ≡ PAGE.now }
+{
     PAGE
 }
 

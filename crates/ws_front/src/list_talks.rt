@@ -1,12 +1,13 @@
 //! A conversation in memory, which a script drives.
 
-ghost use Rattle.std.specs.Prelude.{◌≡◌, ◌<◌, ◌≤◌, ◌++◌, ◌∷◌, [], length, drop, slice_get, Some, Err, OnOk, OnErr};
+ghost use Rattle.std.specs.Prelude.{◌≡◌, ◌<◌, ◌≤◌, ◌++◌, ◌∷◌, [], length, drop, slice_get, true, Some, Ok, Err, OnOk, OnErr};
 ghost use Rattle.outside.specs.Causes.{next_count};
 ghost use Rattle.outside.specs.LinkScripts.{later};
-ghost use Rattle.ws_front.specs.Talks.{Hears, Says};
+ghost use Rattle.ws_front.specs.Talks.{Hears, Says, closed};
 ghost use Rattle.ws_front.specs.declared.talks.TalkFault.{TalkFault};
-ghost use Rattle.ws_front.specs.ListTalks.{Listed, shown, begun, HeardBy, SaidBy};
-ghost use Rattle.ws_front.specs.declared.talks.TalkFault.TheVariants.{Memory};
+ghost use Rattle.ws_front.specs.ListTalks.{Listed, shown, begun, ended, HeardBy, SaidBy};
+ghost use Rattle.ws_front.specs.declared.talks.Said.TheVariants.{Over};
+ghost use Rattle.ws_front.specs.declared.talks.TalkFault.TheVariants.{Failed, Memory};
 
 use crate::talks::{Message, Said, Talk, TalkFault, Told};
 use byte_text::{NoMemory, Text};
@@ -47,6 +48,7 @@ pub struct ListTalk {
     passed: usize,
     sayings: VecDeque<Saying>,
     said: Vec<Text>,
+    is_closed: bool,
     faults: u64,
 }
 
@@ -58,6 +60,7 @@ impl Drop for ListTalk {
             passed: _,
             sayings: _,
             said: _,
+            is_closed: _,
             faults: _,
         } = self;
     }
@@ -70,10 +73,12 @@ impl Model for ListTalk {
       listenings = drop t.passed t.listenings.items;
       sayings = t.sayings.items;
       said = t.said.items;
+      is_closed = t.is_closed;
       faults = t.faults;
     } };
 
-    ghost invariant = { λ t. t.passed ≤ length t.listenings.items };
+    ghost invariant = { λ t. (t.passed ≤ length t.listenings.items)
+        × (t.is_closed ≡ true → t.passed ≡ length t.listenings.items) };
 }
 
 impl ListTalk {
@@ -87,6 +92,7 @@ impl ListTalk {
             passed: 0,
             sayings: VecDeque::from(sayings),
             said: Vec::new(alloc),
+            is_closed: false,
             faults: 0,
         }
     }
@@ -127,19 +133,26 @@ impl ListTalk {
 }
 
 impl Talk for ListTalk {
-    ghost use Rattle.ws_front.specs.Talks.{TalkState, Hears, Says};
+    ghost use Rattle.std.specs.Prelude.{◌≡◌, true, Ok, Err};
+    ghost use Rattle.ws_front.specs.Talks.{TalkState, Hears, Says, closed};
     ghost use Rattle.ws_front.specs.ListTalks.{shown};
+    ghost use Rattle.ws_front.specs.declared.talks.Said.TheVariants.{Over};
+    ghost use Rattle.ws_front.specs.declared.talks.TalkFault.TheVariants.{Failed};
 
     ghost shows = { λ t. shown t };
 
     /// It hears as its script says.
     fn hear(&mut self, into: &mut Text) -> Result<Said, TalkFault>
         ensures heard { Hears (shown self.old) (shown self.new) into.old into.new result }
+        ensures closed { self.old.is_closed ≡ true → result ≡ Ok Over }
         ensures by { HeardBy self.old.listenings result }
         ensures passed { (result ≡ Err Memory → ⊥) → self.new.listenings ≡ later self.old.listenings }
         ensures kept { result ≡ Err Memory → self.new.listenings ≡ self.old.listenings }
         ensures sayings { self.new.sayings ≡ self.old.sayings }
     {
+        if self.is_closed {
+            return Ok(Said::Over);
+        }
         let Some(listening) = self.listenings.get(self.passed) else {
             return Ok(Said::Over);
         };
@@ -163,11 +176,16 @@ impl Talk for ListTalk {
     /// It says as its script says.
     fn say(&mut self, bytes: &[u8]) -> Result<Told, TalkFault>
         ensures said { Says (shown self.old) (shown self.new) bytes.now result }
-        ensures by { SaidBy self.old.sayings result }
+        ensures closed { self.old.is_closed ≡ true → result ≡ Err Failed }
+        ensures by { SaidBy self.old.is_closed self.old.sayings result }
         ensures sayings { self.new.sayings ≡ later self.old.sayings }
         ensures listenings { self.new.listenings ≡ self.old.listenings }
     {
-        match self.sayings.pop_front() {
+        let saying = self.sayings.pop_front();
+        if self.is_closed {
+            return Err(self.fail());
+        }
+        match saying {
             Some(Saying::Later) => Ok(Told::Later),
             Some(Saying::Fails) => Err(self.fail()),
             Some(Saying::Whole) | None => match self.keep(bytes) {
@@ -175,5 +193,16 @@ impl Talk for ListTalk {
                 Err(NoMemory) => Err(TalkFault::Memory),
             },
         }
+    }
+
+    /// What its script has left to be heard is heard no more.
+    fn close(&mut self) -> Result<(), NoMemory>
+        ensures closes { shown self.new ≡ closed (shown self.old) }
+        ensures ended { self.new ≡ ended self.old }
+        ensures never { OnErr result ⊥ }
+    {
+        self.passed = self.listenings.len();
+        self.is_closed = true;
+        Ok(())
     }
 }

@@ -1,6 +1,6 @@
 //! A conversation of messages whose calls never wait.
 
-use byte_text::Text;
+use byte_text::{NoMemory, Text};
 
 /// A message that comes in a conversation.
 #[derive(Drop)]
@@ -46,16 +46,26 @@ pub enum TalkFault {
 
 /// A conversation of messages whose calls never wait.
 pub trait Talk {
-    ghost use Rattle.ws_front.specs.Talks.{TalkState, Hears, Says};
+    ghost use Rattle.std.specs.Prelude.{◌≡◌, true, Ok, Err};
+    ghost use Rattle.ws_front.specs.Talks.{TalkState, Hears, Says, closed};
+    ghost use Rattle.ws_front.specs.declared.talks.Said.TheVariants.{Over};
+    ghost use Rattle.ws_front.specs.declared.talks.TalkFault.TheVariants.{Failed};
 
-    /// What is left to be heard and what was said, where the conversation tells them, and its failures.
+    /// What is left to be heard and what was said, where the conversation tells them, whether it was closed, and its
+    /// failures.
     ghost shows: { Self → TalkState };
 
     /// Puts the bytes of the next message behind those of `into`, where it is a binary one.
     fn hear(&mut self, into: &mut Text) -> Result<Said, TalkFault>
-        ensures { Hears (shows self.old) (shows self.new) into.old into.new result };
+        ensures heard { Hears (shows self.old) (shows self.new) into.old into.new result }
+        ensures closed { (shows self.old).is_closed ≡ true → result ≡ Ok Over };
 
     /// Says these bytes as one binary message.
     fn say(&mut self, bytes: &[u8]) -> Result<Told, TalkFault>
-        ensures { Says (shows self.old) (shows self.new) bytes.now result };
+        ensures said { Says (shows self.old) (shows self.new) bytes.now result }
+        ensures closed { (shows self.old).is_closed ≡ true → result ≡ Err Failed };
+
+    /// Nothing more is heard or said. Where memory is refused, the other side is not told so.
+    fn close(&mut self) -> Result<(), NoMemory>
+        ensures { shows self.new ≡ closed (shows self.old) };
 }

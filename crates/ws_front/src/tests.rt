@@ -1,8 +1,8 @@
 //! Frames, links over conversations in memory, and a WebSocket over bytes.
 
 use crate::{
-    Answer, Greeting, Head, ListTalk, Listening, MAX_HEAD, Message, Said, Saying, Talk, Told,
-    Upgrade, WebLink, WsTalk, answer_text, answer_to, frame_end, greet, is_allowed, own_page,
+    Answer, Greeting, Head, ListTalk, Listening, MAX_HEAD, Message, Said, Saying, Talk, TalkFault,
+    Told, Upgrade, WebLink, WsTalk, answer_text, answer_to, frame_end, greet, is_allowed, own_page,
 };
 use byte_text::Text;
 use outside::{Failed, Got, ReadyLink, Sent};
@@ -121,6 +121,20 @@ fn each_frame_is_said_as_one_message(rt: HostRuntime) -> Result<(), Fail> {
     Ok(())
 }
 
+#[test]
+fn of_a_closed_link_no_more_is_read_than_was_heard(rt: HostRuntime) -> Result<(), Fail> {
+    let alloc = rt.alloc();
+    let mut link = link_of(alloc, &[PING, PING])?;
+    let mut into = [0u8; 10];
+    assert_eq!(rt; link.read(&mut into), Ok(Got::Bytes(10)));
+    link.close();
+    assert_eq!(rt; link.read(&mut into), Ok(Got::Bytes(4)));
+    assert_eq!(rt; link.read(&mut into), Ok(Got::End));
+    assert_eq!(rt; link.write(b"+OK\r\n"), Err(Failed));
+    assert_eq!(rt; link.talk().said(), 0);
+    Ok(())
+}
+
 // A WebSocket of a server to which these bytes come.
 fn talk_over(alloc: Global, bytes: &'static [u8]) -> WsTalk<Duplex<&'static [u8], Vec<u8>>> {
     let stream = Duplex {
@@ -140,6 +154,18 @@ fn a_masked_message_is_heard_and_a_frame_goes_out_unmasked(rt: HostRuntime) -> R
     assert_eq!(rt; talk.say(b"+PONG\r\n"), Ok(Told::Whole));
     let written = talk.socket.get_ref().writer.as_slice();
     assert_eq!(rt; written, b"\x82\x07\x2b\x50\x4f\x4e\x47\x0d\x0a".as_slice());
+    Ok(())
+}
+
+#[test]
+fn behind_a_close_frame_nothing_is_heard_or_said(rt: HostRuntime) -> Result<(), Fail> {
+    let alloc = rt.alloc();
+    let mut talk = talk_over(alloc, b"\x82\x8e\x00\x00\x00\x00*1\r\n$4\r\nPING\r\n");
+    assert!(rt; talk.close().is_ok());
+    assert_eq!(rt; talk.hear(&mut Text::new(alloc)), Ok(Said::Over));
+    assert_eq!(rt; talk.say(b"+PONG\r\n"), Err(TalkFault::Failed));
+    let written = talk.socket.get_ref().writer.as_slice();
+    assert_eq!(rt; written, b"\x88\x00".as_slice());
     Ok(())
 }
 

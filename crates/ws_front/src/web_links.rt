@@ -10,17 +10,16 @@ ghost use Rattle.outside.specs.Causes.{next_count};
 ghost use Rattle.outside.specs.Links.{GotWithin, LinkFails, SentWithin, Reads, Writes};
 ghost use Rattle.ws_front.specs.FrameTexts.{IsFrameText};
 ghost use Rattle.ws_front.specs.Requests.{is_one_request};
+ghost use Rattle.ws_front.specs.Talks.{closed};
 ghost use Rattle.ws_front.specs.WebLinks.{begun, link_of, Saying};
 
 use crate::frames::frame_end;
 use crate::requests::is_one_request;
 use crate::talks::{Said, Talk, Told};
 use crate::unread::Unread;
-use crate::ws_talks::WsTalk;
 use byte_text::{NoMemory, Text};
 use outside::{Failed, Got, ReadyLink, Sent};
 use std::alloc::Global;
-use std::io::{Read, Write};
 use std::marker::Model;
 
 /// So many listenings one read makes at most. Where they bring nothing to read, the caller is heard no more.
@@ -87,12 +86,27 @@ impl<T: Talk> WebLink<T> {
         }
     }
 
+    /// The number of its caller.
+    pub fn caller(&self) -> u64
+        ensures { result ≡ self.now.caller }
+    {
+        self.caller
+    }
+
     /// Its conversation: each message that was said in it is the text of one frame.
     pub fn talk(&self) -> &T
         ensures talk { T.shows result.now ≡ self.now.talk }
         ensures frames { IfSome self.now.talk.said (λ ms. AllByRecursion IsFrameText ms) }
     {
         &self.talk
+    }
+
+    /// Closes its conversation: what was heard before can still be read, and nothing more is written.
+    pub fn close(&mut self)
+        ensures { self.new ≡ record self.old { talk = closed self.old.talk } }
+    {
+        // Where no memory is left, the link ends without a word.
+        let _ = self.talk.close();
     }
 
     // Counts a failure.
@@ -211,15 +225,6 @@ impl<T: Talk> WebLink<T> {
                 Err(self.fail())
             }
         }
-    }
-}
-
-impl<S: Read + Write + Drop> WebLink<WsTalk<S>> {
-    /// Says that the conversation ends, where the stream takes that at once.
-    pub fn close(&mut self)
-        ensures { self.new ≡ self.old }
-    {
-        self.talk.close();
     }
 }
 

@@ -4,13 +4,15 @@
 //! is to be offered again, and no other in its place. While bytes wait to leave nothing is heard, so no more than one
 //! frame and one answer to a ping waits in memory, whatever a caller sends.
 
-ghost use Rattle.std.specs.Prelude.{◌≡◌, ◌≤◌, ◌+◌, ◌*◌, List, ℕ, Some, false};
+ghost use Rattle.std.specs.Prelude.{◌≡◌, ◌≤◌, ◌+◌, ◌*◌, List, ℕ, Some, None, true, false, OnOk};
 ghost use Rattle.byte_text.specs.Requests.{max_request, max_words};
 ghost use Rattle.outside.specs.Causes.{Rose};
-ghost use Rattle.ws_front.specs.Talks.{Hears, Says, silent};
+ghost use Rattle.websocket.specs.Connection.{close_step};
+ghost use Rattle.tungstenite.specs.Socket.{Writes};
+ghost use Rattle.ws_front.specs.Talks.{Hears, Says, silent, closed};
 
 use crate::talks::{Said, Talk, TalkFault, Told};
-use byte_text::{MAX_REQUEST, MAX_WORDS, Text};
+use byte_text::{MAX_REQUEST, MAX_WORDS, NoMemory, Text};
 use std::alloc::Global;
 use std::io::{ErrorKind, Read, Write};
 use tungstenite::{Error, Message, NoMask, Role, WebSocket, WebSocketConfig};
@@ -42,6 +44,7 @@ pub struct WsTalk<S: Read + Write + Drop> {
     begun: Option<usize>,
     // A message was lost for want of memory, so nothing more is heard.
     is_lost: bool,
+    is_closed: bool,
     pub(crate) faults: u64,
 }
 
@@ -54,6 +57,7 @@ impl<S: Read + Write + Drop> WsTalk<S> {
         ensures message { result.socket.conn.config.max_message_size ≡ Some (max_request + 12 * max_words + 7) }
         ensures frame { result.socket.conn.config.max_frame_size ≡ Some (max_request + 12 * max_words + 7) }
         ensures masks { result.socket.conn.config.accept_unmasked_frames ≡ false }
+        ensures open { result.is_closed ≡ false }
         ensures faults { result.faults ≡ 0 }
     {
         let config = Some(limits());
@@ -69,6 +73,7 @@ impl<S: Read + Write + Drop> WsTalk<S> {
             ),
             begun: None,
             is_lost: false,
+            is_closed: false,
             faults: 0,
         }
     }
@@ -80,18 +85,12 @@ impl<S: Read + Write + Drop> WsTalk<S> {
         self.socket.get_ref()
     }
 
-    /// Sends a close frame, where the stream takes it at once.
-    pub fn close(&mut self)
-        ensures { self.new.faults ≡ self.old.faults }
-    {
-        let _ = self.socket.close(None);
-    }
-
     // Counts a failure.
     fn fail(&mut self) -> TalkFault
         ensures fault { result ≡ TalkFault.Failed }
         ensures rose { Rose self.old.faults self.new.faults }
         ensures later { self.old.faults ≤ self.new.faults }
+        ensures open { self.new.is_closed ≡ self.old.is_closed }
     {
         self.faults = self.faults.saturating_add(1);
         TalkFault::Failed
@@ -107,7 +106,7 @@ impl<S: Read + Write + Drop> WsTalk<S> {
 
     // Puts the frame of a message behind what waits to leave, unless it has left in part, and sends what can leave.
     fn send(&mut self, bytes: &[u8]) -> Result<(), Error>
-        ensures { self.new.faults ≡ self.old.faults }
+        ensures { silent self.new.is_closed self.new.faults ≡ silent self.old.is_closed self.old.faults }
     {
         if self.begun.is_some() {
             return self.socket.flush();
@@ -118,7 +117,7 @@ impl<S: Read + Write + Drop> WsTalk<S> {
 
     // The next message, where nothing waits to leave.
     fn next(&mut self) -> Result<Message, Error>
-        ensures { self.new.faults ≡ self.old.faults }
+        ensures { silent self.new.is_closed self.new.faults ≡ silent self.old.is_closed self.old.faults }
     {
         self.socket.flush()?;
         self.socket.read()
@@ -136,7 +135,8 @@ fn would_block(error: &Error) -> bool {
 impl<S: Read + Write + Drop> WsTalk<S> {
     // A message came.
     fn take(&mut self, message: &Message, into: &mut Text) -> Result<Said, TalkFault>
-        ensures { Hears (silent self.old.faults) (silent self.new.faults) into.old into.new result }
+        ensures { Hears (silent self.old.is_closed self.old.faults) (silent self.new.is_closed self.new.faults) into.old
+            into.new result }
     {
         match message {
             Message::Binary(bytes) => {
@@ -154,7 +154,8 @@ impl<S: Read + Write + Drop> WsTalk<S> {
 
     // No message came.
     fn miss(&mut self, error: &Error) -> Result<Said, TalkFault>
-        ensures { (bytes : List ℕ) → Hears (silent self.old.faults) (silent self.new.faults) bytes bytes result }
+        ensures { (bytes : List ℕ) → Hears (silent self.old.is_closed self.old.faults)
+            (silent self.new.is_closed self.new.faults) bytes bytes result }
     {
         match error {
             Error::ConnectionClosed => Ok(Said::Over),
@@ -166,7 +167,8 @@ impl<S: Read + Write + Drop> WsTalk<S> {
 
     // A frame of so many bytes was not sent whole.
     fn hold(&mut self, error: &Error, len: usize) -> Result<Told, TalkFault>
-        ensures { (bytes : List ℕ) → Says (silent self.old.faults) (silent self.new.faults) bytes result }
+        ensures { (bytes : List ℕ) → Says (silent self.old.is_closed self.old.faults)
+            (silent self.new.is_closed self.new.faults) bytes result }
     {
         match error {
             Error::OutOfMemory => Err(TalkFault::Memory),
@@ -180,12 +182,18 @@ impl<S: Read + Write + Drop> WsTalk<S> {
 }
 
 impl<S: Read + Write + Drop> Talk for WsTalk<S> {
-    ghost use Rattle.ws_front.specs.Talks.{TalkState, Hears, Says, silent};
+    ghost use Rattle.std.specs.Prelude.{◌≡◌, true, Ok, Err};
+    ghost use Rattle.ws_front.specs.Talks.{TalkState, Hears, Says, silent, closed};
+    ghost use Rattle.ws_front.specs.declared.talks.Said.TheVariants.{Over};
+    ghost use Rattle.ws_front.specs.declared.talks.TalkFault.TheVariants.{Failed};
 
-    ghost shows = { λ talk. silent talk.faults };
+    ghost shows = { λ talk. silent talk.is_closed talk.faults };
 
     /// A ping is answered by the WebSocket itself.
     fn hear(&mut self, into: &mut Text) -> Result<Said, TalkFault> {
+        if self.is_closed {
+            return Ok(Said::Over);
+        }
         if self.is_lost {
             return Err(self.fail());
         }
@@ -197,7 +205,7 @@ impl<S: Read + Write + Drop> Talk for WsTalk<S> {
 
     /// A frame that has left in part is to be offered again; another in its place is a failure.
     fn say(&mut self, bytes: &[u8]) -> Result<Told, TalkFault> {
-        if self.has_begun_other(bytes.len()) {
+        if self.is_closed || self.has_begun_other(bytes.len()) {
             return Err(self.fail());
         }
         match self.send(bytes) {
@@ -206,6 +214,21 @@ impl<S: Read + Write + Drop> Talk for WsTalk<S> {
                 Ok(Told::Whole)
             }
             Err(error) => self.hold(&error, bytes.len()),
+        }
+    }
+
+    /// A close frame waits to leave behind all that waits, and what the stream takes at once leaves.
+    fn close(&mut self) -> Result<(), NoMemory>
+        ensures closes { silent self.new.is_closed self.new.faults
+            ≡ closed (silent self.old.is_closed self.old.faults) }
+        ensures frame { OnOk result (Writes S.contents self.old.socket self.new.socket
+            (close_step self.old.socket.conn None)) }
+    {
+        self.is_closed = true;
+        match self.socket.close(None) {
+            Ok(()) | Err(Error::Io(_)) => Ok(()),
+            // A close frame without a code is refused for no other cause.
+            Err(_) => Err(NoMemory),
         }
     }
 }

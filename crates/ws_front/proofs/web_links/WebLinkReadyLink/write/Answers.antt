@@ -19,4 +19,4 @@ returns-in-Ok-Whole-clause-written g c =
     subst (λ (old : WebState).
     Appends (link_of old).held (link_of (record w { talk = talk })).held frame
     × (link_of (record w { talk = talk }) ≡ record (link_of old) { held = (link_of (record w { talk = talk })).held })) c.self.view_is
-    (whole_by w talk frame c.in-Ok-Whole.field-0 c.in-Ok-Whole.field-0-is c.in-Ok-Whole.ensures)
+    (whole_by w talk frame c.in-Ok-Whole.field-0 c.in-Ok-Whole.field-0-is c.in-Ok-Whole.ensures.said)
