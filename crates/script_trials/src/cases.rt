@@ -8,6 +8,7 @@ use crate::stream_faults::Stream;
 use byte_text::Text;
 use outside::{CallerScript, DoorScript, Named, Side, Visit};
 use std::alloc::Global;
+use ws_front::Listening;
 
 /// How a case is played.
 #[derive(Clone, Copy, PartialEq, Eq)]
@@ -26,6 +27,8 @@ pub(crate) enum Play {
     StreamFaults(Stream),
     /// The program's one call serves the callers, and the disk fails at each call in turn.
     ServeFaults,
+    /// The program's one call serves callers who come over WebSockets.
+    Web,
     /// The program's one call is asked for what the words say, over a side that is bent at each place in turn.
     Bent(Side, Bend),
     /// The disk is opened, fails at each call of the opening in turn, and is crashed at each moment of it.
@@ -87,9 +90,11 @@ pub(crate) struct Case {
     pub(crate) b: Text,
     /// What happens at the door.
     pub(crate) door: DoorScript,
+    /// What comes over the WebSocket of each caller.
+    pub(crate) talks: Vec<Vec<Listening>>,
     /// Whom each wait names, up to the end of the list; behind it all who are watched.
     pub(crate) waits: Vec<Vec<Named>>,
-    /// What each caller is written.
+    /// What each caller is written; over WebSockets nothing, and behind that each message.
     pub(crate) told: Vec<Text>,
     /// Whose link is shut last, where that is said.
     pub(crate) last: Option<u64>,
@@ -116,6 +121,7 @@ impl Drop for Case {
             a: _,
             b: _,
             door: _,
+            talks: _,
             waits: _,
             told: _,
             last: _,
@@ -163,6 +169,7 @@ impl Case {
                 stays: false,
                 opens: true,
             },
+            talks: Vec::new(alloc),
             waits: Vec::new(alloc),
             told: Vec::new(alloc),
             last: None,

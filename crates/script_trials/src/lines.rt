@@ -11,6 +11,7 @@ use log_sides::NEWEST;
 use outside::{CallerScript, Move, Named, Visit};
 use script_text::push_frame_line;
 use std::alloc::Global;
+use ws_front::{Listening, Message};
 
 // A number of a line.
 fn number(word: &str) -> Result<u64, Fault> {
@@ -72,6 +73,7 @@ fn play_of(how: &str) -> Result<Play, Fault> {
         "source faults" => Ok(Play::StreamFaults(Stream::Source)),
         "sink faults" => Ok(Play::StreamFaults(Stream::Sink)),
         "serve faults" => Ok(Play::ServeFaults),
+        "web" => Ok(Play::Web),
         "upgrade" => Ok(Play::Upgrade),
         "visits" => Ok(Play::Visits),
         "drive" => Ok(Play::Drive),
@@ -233,6 +235,50 @@ fn hear_caller(case: &mut Case) -> Result<(), Fault> {
     };
     case.door.visits.push(Visit::Comes(caller))?;
     case.told.push(Text::new(case.alloc))?;
+    case.talks.push(Vec::new(case.alloc))?;
+    Ok(())
+}
+
+// What a listening brings that brings no binary message.
+fn listening_of(word: &str) -> Result<Listening, Fault> {
+    match word {
+        "text" => Ok(Listening::Comes(Message::Other)),
+        "quiet" => Ok(Listening::Quiet),
+        "later" => Ok(Listening::Later),
+        "fails" => Ok(Listening::Fails),
+        _ => Err(Fault::Line),
+    }
+}
+
+// Puts the listenings of a line last in a list.
+fn push_listenings(listenings: &mut Vec<Listening>, words: &str) -> Result<(), Fault> {
+    for word in words.split(' ') {
+        listenings.push(listening_of(word)?)?;
+    }
+    Ok(())
+}
+
+// What comes next over the last caller's WebSocket.
+fn hear_of_talk(case: &mut Case, word: &str, rest: &str) -> Result<(), Fault> {
+    let Some(talk) = case.talks.last_mut() else {
+        return Err(Fault::Line);
+    };
+    let message = match word {
+        "says" => request_of(case.alloc, rest)?,
+        "said" => text_of(case.alloc, rest)?,
+        _ => return push_listenings(talk, rest),
+    };
+    talk.push(Listening::Comes(Message::Binary(message)))?;
+    Ok(())
+}
+
+// The last caller is told something: a message of its own where it came over a WebSocket.
+fn hear_told(case: &mut Case, rest: &str) -> Result<(), Fault> {
+    let frame = frame_of(case.alloc, rest)?;
+    if case.play != Play::Web {
+        return push_last(&mut case.told, &frame);
+    }
+    case.told.push(frame)?;
     Ok(())
 }
 
@@ -328,10 +374,7 @@ fn hear_of_caller(case: &mut Case, word: &str, rest: &str) -> Result<(), Fault> 
         }
         "reads" => push_moves(&mut case.caller()?.reads, rest),
         "writes" => push_moves(&mut case.caller()?.writes, rest),
-        _ => {
-            let frame = frame_of(case.alloc, rest)?;
-            push_last(&mut case.told, &frame)
-        }
+        _ => hear_told(case, rest),
     }
 }
 
@@ -393,6 +436,7 @@ fn hear_split(case: &mut Case, word: &str, rest: &str) -> Result<(), Fault> {
         "names" => hear_names(case, rest),
         "lasts" => hear_last(case),
         "stays" => hear_stays(case),
+        "says" | "said" | "hears" => hear_of_talk(case, word, rest),
         "sends" | "sent" | "reads" | "writes" | "told" => hear_of_caller(case, word, rest),
         _ => hear_session(case, word, rest),
     }

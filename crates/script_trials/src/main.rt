@@ -29,6 +29,8 @@
 //! | `reads HOW ..`, `writes HOW ..` | its link's next reads or writes move by N bytes at most, answer `later`, or it `fails`; behind these as much as may be |
 //! | `told FRAME` | it is written the frame |
 //! | `lasts` | its link is shut behind all others |
+//! | `says WORDS`, `said TEXT` | where the case `plays web`, the last caller's next message is a request, or these bytes, and each `told FRAME` is a message |
+//! | `hears HOW ..` | its WebSocket's next listenings bring a `text` message, nothing that concerns the listener (`quiet`), answer `later`, or it `fails` |
 //! | `log N`, `batch`, `shut` | a side is built: its head with generation N, a batch, the closed gate at its end |
 //! | `record WORDS`, `more WORDS`, `bytes TEXT` | a record, more words of it, bytes |
 //! | `begins S`, `leaves S` | what was built stands on side A or B at first, or at the end |
@@ -54,6 +56,8 @@ mod stream_faults;
 mod texts;
 mod turns;
 mod upgrades;
+mod web_doors;
+mod web_plays;
 mod workloads;
 mod worlds;
 

@@ -13,6 +13,7 @@ use crate::serve_faults::play_serve_faults;
 use crate::stream_faults::play_stream_faults;
 use crate::texts::{push_escaped, push_last_line, push_line};
 use crate::upgrades::play_upgrade;
+use crate::web_plays::play_web;
 use crate::workloads::play_workload;
 use byte_text::{Text, push_u64};
 use outside::{
@@ -208,7 +209,8 @@ fn play_top<R: Wait + Threads + Sync>(
     seen_behind(alloc, case, ended, text)
 }
 
-fn seen_behind(
+/// What came, and what is seen on the disk behind it.
+pub(crate) fn seen_behind(
     alloc: Global,
     case: &Case,
     ended: Ended<MemoryDisk>,
@@ -266,6 +268,7 @@ pub(crate) fn play<R: Wait + Threads + Sync>(
             text: play_serve_faults(rt, alloc, case)?,
             disk: None,
         }),
+        Play::Web => play_web(rt, alloc, case, disk_of(alloc, case, left)?),
         Play::Bent(side, bend) => without_disk(play_bent(rt, alloc, case, side, bend)?),
         Play::Upgrade => without_disk(play_upgrade(alloc, case)?),
         Play::Visits => without_disk(play_visits(alloc, case)?),
