@@ -1,7 +1,7 @@
 //! A door in memory that lets in WebSockets, and one that waits for them.
 
-ghost use Rattle.std.specs.Prelude.{◌≡◌, OnOk, OnErr};
-ghost use Rattle.outside.specs.Causes.{next_count};
+ghost use Rattle.std.specs.Prelude.{◌≡◌, ◌≤◌};
+ghost use Rattle.outside.specs.Causes.{Rose};
 
 use outside::{Caller, Failed, Named, NoMemory, OpenPort, Port, ReadyDoor, WaitForLinks, Wake};
 use std::alloc::Global;
@@ -105,17 +105,14 @@ impl WebWait {
         &self.shut
     }
 
-    // Watches one more.
-    fn add(&mut self, name: Named) -> Result<(), Failed>
+    // Counts a failure.
+    fn fail(&mut self) -> Failed
         ensures shut { self.new.shut ≡ self.old.shut }
-        ensures ok { OnOk result (self.new.faults ≡ self.old.faults) }
-        ensures err { OnErr result (self.new.faults ≡ next_count self.old.faults) }
+        ensures rose { Rose self.old.faults self.new.faults }
+        ensures later { self.old.faults ≤ self.new.faults }
     {
-        if self.watched.push(name).is_err() {
-            self.faults = self.faults.saturating_add(1);
-            return Err(Failed);
-        }
-        Ok(())
+        self.faults = self.faults.saturating_add(1);
+        Failed
     }
 }
 
@@ -129,11 +126,17 @@ impl WaitForLinks<WebDoor> for WebWait {
     ghost shows = { λ w. record { shut = Some (map link_of w.shut.items); over = false; faults = w.faults } };
 
     fn watch_door(&mut self, door: &mut WebDoor) -> Result<(), Failed> {
-        self.add(Named::Door)
+        if self.watched.push(Named::Door).is_err() {
+            return Err(self.fail());
+        }
+        Ok(())
     }
 
     fn watch(&mut self, link: &mut WebLink<ListTalk>, token: u32) -> Result<(), Failed> {
-        self.add(Named::Link(token))
+        if self.watched.push(Named::Link(token)).is_err() {
+            return Err(self.fail());
+        }
+        Ok(())
     }
 
     /// No end is asked for.
