@@ -3,8 +3,10 @@
 // fuzz run KIND FIRST LAST SEED PROGRAM SEEDS   the inputs from FIRST up to LAST, without it; each is drawn from its number, the seed and
 //                                               the files of the folder SEEDS, so that it can be drawn again
 // fuzz show KIND NUMBER SEED SEEDS              writes one of them to standard output
-// fuzz one KIND PROGRAM                         the input of standard input alone; ends by SIGABRT where the answer is wrong, and else puts a
-//                                               byte last in the file that DONE names
+// fuzz one KIND PROGRAM                         the input of standard input alone; ends by SIGABRT where the answer is wrong
+// fuzz drawn KIND PROGRAM                       the inputs that afl-fuzz of AFL++ draws, where afl-clang-fast compiled this: the plain readers
+//                                               guide it; ends by SIGABRT where an answer is wrong, and puts the number of those that were
+//                                               right last in the file that DONE names
 //
 // KIND       an input is                          and is given
 // requests   what a session sends                 by a `feed` of a script: as many calls have to be made, and the session has to be told the
@@ -20,6 +22,7 @@
 #include <dirent.h>
 #include <errno.h>
 #include <fcntl.h>
+#include <limits.h>
 #include <math.h>
 #include <poll.h>
 #include <signal.h>
@@ -1183,12 +1186,6 @@ static void run_all(uint64_t first, uint64_t last, uint64_t seed) {
         (unsigned long long)slow_once, (unsigned long long)found);
 }
 
-static void count_done(const char *path) {
-    int fd = open(path, O_WRONLY | O_CREAT | O_APPEND, 0644);
-    if (fd < 0 || write(fd, ".", 1) != 1) die(path);
-    close(fd);
-}
-
 // The input of standard input alone.
 static void run_one(void) {
     static Check c;
@@ -1200,6 +1197,63 @@ static void run_one(void) {
     else if (input->len > 0 && input->len <= 65536)
         play(0, 1, 0, &c);
 }
+
+#ifdef __AFL_COMPILER
+__AFL_FUZZ_INIT();
+
+static void count_right(size_t count) {
+    char line[32];
+    const char *path = getenv("DONE");
+    int fd = path ? open(path, O_WRONLY | O_CREAT | O_APPEND, 0644) : -1;
+    int len = snprintf(line, sizeof line, "%zu\n", count);
+    if (fd < 0 || write(fd, line, (size_t)len) != len) die("DONE");
+    close(fd);
+}
+
+// Plays the inputs that were drawn so far.
+static void play_drawn(Check *c) {
+    if (!strcmp(kind, "logs"))
+        for (size_t i = 0; i < input_count; i++) open_log(&inputs[i], i, c);
+    else
+        for (size_t from = 0; from < input_count;) from = play(from, input_count, 0, c);
+    if (found) abort();
+    if (input_count) count_right(input_count);
+    input_count = 0;
+}
+
+// Whether the plain reader takes the input for one that others may follow in its script. What it looks at guides what is drawn next.
+static bool is_followed(const Text *input) {
+    if (!strcmp(kind, "requests")) fed_by(input->at, input->len);
+    if (!strcmp(kind, "objects")) is_json(input->at, input->len);
+    return strcmp(kind, "lines") || is_line(input->at, input->len);
+}
+
+static void run_drawn(void) {
+    static Check c;
+    bool is_lines = !strcmp(kind, "lines"), is_log = !strcmp(kind, "logs");
+    size_t most = is_log ? 1 : is_lines ? LINES_BATCH : BATCH;
+    __AFL_INIT();
+    make_folder();
+    const uint8_t *at = __AFL_FUZZ_TESTCASE_BUF;
+    while (__AFL_LOOP(INT_MAX)) {
+        size_t len = (size_t)__AFL_FUZZ_TESTCASE_LEN;
+        if (len == 0) continue;
+        Text *input = &inputs[input_count++];
+        input->len = 0;
+        put(input, at, len < MOST_BYTES ? len : MOST_BYTES);
+        for (size_t i = 0; is_lines && i < input->len; i++)
+            if (input->at[i] == '\n') input->at[i] = ' ';
+        // A line that is none is the last of its script.
+        if (!is_followed(input) || input_count == most) play_drawn(&c);
+    }
+    play_drawn(&c);
+}
+#else
+static void run_drawn(void) {
+    fprintf(stderr, "fuzz: drawn wants afl-clang-fast to compile this\n");
+    exit(2);
+}
+#endif
 
 static uint64_t number_of(const char *word) { return strtoull(word, NULL, 10); }
 
@@ -1220,14 +1274,14 @@ int main(int argc, char **argv) {
         program = argv[3];
         make_folder();
         run_one();
+    } else if (argc == 4 && !strcmp(argv[1], "drawn")) {
+        program = argv[3];
+        run_drawn();
     } else {
         fprintf(stderr, "usage: see the head of fuzz.c\n");
         return 2;
     }
     drop_folder();
-    if (!strcmp(argv[1], "one")) {
-        if (found) abort();
-        if (getenv("DONE")) count_done(getenv("DONE"));
-    }
+    if (found && !strcmp(argv[1], "one")) abort();
     return found ? 1 : 0;
 }

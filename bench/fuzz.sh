@@ -1,15 +1,15 @@
 #!/usr/bin/env bash
 # Gives the program bent inputs: what sessions send, texts of objects, lines of scripts, and logs. The head of `fuzz.c` says what is looked at.
-# Usage: bench/fuzz.sh [--afl SECONDS] [INPUTS [SEED [WORKERS]]]   10000000 inputs, seed 1 and a worker a processor, if left out.
+# Usage: bench/fuzz.sh [--afl] [INPUTS [SEED [WORKERS]]]   10000000 inputs, seed 1 and a worker a processor, if left out.
 # Needs python3 and cc. Half of the inputs are requests; of a thousand 450 are objects, 45 lines and 5 logs. They are bent from what stands in
-# the cases that `script_trials` plays. The same numbers and seed give the same inputs. With --afl, afl-fuzz of AFL++, in its mode without
-# instrumentation, draws further ones for so many seconds a kind and gives each to a process of its own.
+# the cases that `script_trials` plays. The same numbers and seed give the same inputs. With --afl, afl-fuzz of Debian's AFL++ draws them in
+# place of fuzz.c, from the same seeds and guided by its plain readers; the answers are looked at alike.
 # Folders are made where TMPDIR says, which should be in memory. They are kept, and named, where something was found. PROGRAM may name another
 # program than the repository's.
 set -eu
 cd "$(dirname "$0")/.."
-afl=0
-[ "${1:-}" = --afl ] && { afl=$2; shift 2; }
+afl=''
+[ "${1:-}" = --afl ] && { afl=yes; shift; }
 inputs=${1:-10000000}
 seed=${2:-1}
 workers=${3:-$(nproc)}
@@ -21,6 +21,9 @@ if [ -z "$program" ]; then
 fi
 folder=$(mktemp -d "${TMPDIR:-/tmp}/fuzz-run-XXXXXX")
 cc -O2 -Wall -o "$folder/fuzz" bench/fuzz.c
+if [ -n "$afl" ]; then
+  AFL_QUIET=1 afl-clang-fast -O2 -o "$folder/fuzz-afl" bench/fuzz.c
+fi
 
 python3 - crates/script_trials/stdin "$folder/seeds" <<'PYTHON'
 import os, re, sys
@@ -88,9 +91,32 @@ PYTHON
 cd "$folder"
 export TMPDIR="$folder" LC_ALL=C
 status=0
+
+# What AFL++ draws of a kind, by workers that share what they find.
+draw() {
+  local kind=$1 count=$2 worker pids=() wrong
+  : >"done-$kind"
+  for ((worker = 0; worker < workers; worker++)); do
+    DONE=$folder/done-$kind AFL_AUTORESUME=0 afl-fuzz -S "worker$worker" -i "seeds/$kind" -o "afl-$kind" -t 20000 -m none -s $((seed + worker)) \
+      -E $((count / workers)) -- "$folder/fuzz-afl" drawn "$kind" "$program" >"afl-$kind-$worker.log" 2>&1 &
+    pids+=($!)
+  done
+  for pid in "${pids[@]}"; do
+    wait "$pid" || status=1
+  done
+  wrong=$(find "afl-$kind" \( -path '*/crashes/id*' -o -path '*/hangs/id*' \) | wc -l)
+  echo "afl $kind: $(awk '{ sum += $1 } END { print sum + 0 }' "done-$kind") inputs right, $wrong wrong, late or ended by a signal"
+  [ "$wrong" = 0 ] || status=1
+}
+
+export AFL_NO_UI=1 AFL_SKIP_CPUFREQ=1 AFL_I_DONT_CARE_ABOUT_MISSING_CRASHES=1 AFL_NO_AFFINITY=1
 for part in requests:500 objects:450 lines:45 logs:5; do
   kind=${part%:*}
   count=$((inputs * ${part#*:} / 1000))
+  if [ -n "$afl" ]; then
+    draw "$kind" "$count"
+    continue
+  fi
   pids=()
   for ((worker = 0; worker < workers; worker++)); do
     ./fuzz run "$kind" $((count * worker / workers)) $((count * (worker + 1) / workers)) "$seed" "$program" "seeds/$kind" &
@@ -100,24 +126,6 @@ for part in requests:500 objects:450 lines:45 logs:5; do
     wait "$pid" || status=1
   done
 done
-
-if [ "$afl" != 0 ]; then
-  export AFL_NO_UI=1 AFL_SKIP_CPUFREQ=1 AFL_I_DONT_CARE_ABOUT_MISSING_CRASHES=1 AFL_NO_AFFINITY=1
-  for kind in requests objects lines logs; do
-    # It says itself how many inputs were right, as it keeps no count in this mode.
-    DONE=$folder/done-$kind afl-fuzz -n -i "seeds/$kind" -o "afl-$kind" -t 1000 -m none -s "$seed" -V "$afl" -- "$folder/fuzz" one "$kind" "$program" \
-      >"afl-$kind.log" 2>&1 || status=1
-    wrong=$(find "afl-$kind" -path '*/crashes/*' -name 'id*' | wc -l)
-    once=0
-    late=0
-    while read -r input; do
-      once=$((once + 1))
-      timeout 1 ./fuzz one "$kind" "$program" <"$input" || late=$((late + 1))
-    done < <(find "afl-$kind" -path '*/hangs/*' -name 'id*')
-    echo "afl $kind: $(($(wc -c <"done-$kind"))) inputs right, $wrong wrong, $once over a second, $late of them again"
-    [ "$wrong$late" = 00 ] || status=1
-  done
-fi
 if [ "$status" != 0 ]; then
   echo "fuzz: seed $seed: something was found; see $folder"
   exit 1
