@@ -31,6 +31,9 @@ use session_table::{Session, stage_message};
 use std::alloc::Global;
 use world_data::{Channel, Detect, Object, Raised, Watch};
 
+// Most payloads have fewer bytes, so that their text takes memory once.
+const ROOM: usize = 256;
+
 // Stages the message of one thing that is raised.
 fn stage_raised(
     alloc: Global,
@@ -47,7 +50,7 @@ fn stage_raised(
         (option_map (λ o. o.now) other.entry) ∷ []))
         sessions.old.items sessions.new.items) }
 {
-    let mut payload = Text::new(alloc);
+    let mut payload = Text::with_room(alloc, ROOM)?;
     push_message(&mut payload, channel, raised, object, other)?;
     stage_message(alloc, sessions, &channel.name, &payload)
 }

@@ -290,7 +290,7 @@ fn plan_rest<G: Growths>(
     if !sessions[at].has_room_left() {
         return Ok(None);
     }
-    // Asked here for what is planned: between the large locals of `plan_request` it would cost a GET 4 in 100.
+    // Asked for what is planned, before its large locals are made.
     grown(growths)?;
     match plan_request(alloc, store, sessions, at, now, asked, spare, growths) {
         Ok(planned) => Ok(Some(planned)),
