@@ -115,7 +115,8 @@ fn told(alloc: Global, all: &Keyspace, answer: bool) -> Result<Text, Fail> {
         text.push(b" ")?;
         push_u64(&mut text, number)?;
     }
-    let stays = matches!(all.get(&fleet, &a), Some(object) if object.deadline == None);
+    let found = matches!(all.get(&fleet, &a), Some(object) if object.deadline == None);
+    let stays = found && all.recall(&fleet, &a).is_some();
     text.push(if stays { b" yes" } else { b" no" })?;
     Ok(text)
 }

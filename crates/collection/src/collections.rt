@@ -19,7 +19,7 @@ ghost use Rattle.collection.specs.Meeting.{meets_box, IsVisited};
 use crate::bounds;
 use crate::found_objects::FoundObjects;
 use crate::hints::Hint;
-use crate::id_order::place_near;
+use crate::id_order::{place_near, place_noted};
 use crate::near_objects::NearObjects;
 use crate::object_lists::ObjectList;
 use byte_text::{Name, NoMemory};
@@ -115,6 +115,17 @@ impl Collection {
 
     /// The object of this id, where there is one.
     pub fn get(&self, id: &Name) -> Option<&Object>
+        ensures none { IfNone result (find (has_id id.now) self.now.objects ≡ None) }
+        ensures some { IfSome result (λ o. find (has_id id.now) self.now.objects ≡ Some o.now) }
+    {
+        match place_noted(&self.objects, id, &self.last) {
+            Ok(at) => Some(self.objects.at(at)),
+            Err(_) => None,
+        }
+    }
+
+    /// The same, looked for first where an object was found last: for a command that comes back to the one it found.
+    pub fn recall(&self, id: &Name) -> Option<&Object>
         ensures none { IfNone result (find (has_id id.now) self.now.objects ≡ None) }
         ensures some { IfSome result (λ o. find (has_id id.now) self.now.objects ≡ Some o.now) }
     {

@@ -2,8 +2,8 @@
 
 use std::sync::atomic::{AtomicUsize, Ordering};
 
-/// The place where something was found last, at which it is looked for first. A command looks the same object up to
-/// plan a change, to tell of it and to make it. It promises nothing, so no contract speaks of it.
+/// The place where something was found last, at which a command that comes back to it looks first: it looks an object up
+/// to plan a change, and again to tell of it and to make it. It promises nothing, so no contract speaks of it.
 #[derive(Drop)]
 pub struct Hint {
     place: AtomicUsize,

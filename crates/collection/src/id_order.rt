@@ -10,8 +10,21 @@ use crate::object_lists::ObjectList;
 use byte_text::Name;
 use ordered_lists::is_same;
 
-/// The place of the object of this id, or, where there is none, the place where it would go. It is looked for first where
-/// one was found last, and noted where it is found.
+/// The place of the object of this id, or, where there is none, the place where it would go. It is noted where it is
+/// found.
+pub(crate) fn place_noted(list: &ObjectList, id: &Name, last: &Hint) -> Result<usize, usize>
+    requires { are_by_id list.now.objects ≡ true }
+    ensures held { IfOk result (λ at. IsHeld (λ o. before o.id id.now) (λ o. before id.now o.id) list.now.objects at) }
+    ensures free { IfErr result (λ at. IsFree (λ o. before o.id id.now) (λ o. before id.now o.id) list.now.objects at) }
+{
+    let place = place_of(list, id);
+    if let Ok(at) = place {
+        last.note(at);
+    }
+    place
+}
+
+/// The same, looked for first where an object was found last.
 pub(crate) fn place_near(list: &ObjectList, id: &Name, last: &Hint) -> Result<usize, usize>
     requires { are_by_id list.now.objects ≡ true }
     ensures held { IfOk result (λ at. IsHeld (λ o. before o.id id.now) (λ o. before id.now o.id) list.now.objects at) }
@@ -21,14 +34,10 @@ pub(crate) fn place_near(list: &ObjectList, id: &Name, last: &Hint) -> Result<us
     if near < list.len() && is_same(&list.at(near).id, id) {
         return Ok(near);
     }
-    let place = place_of(list, id);
-    if let Ok(at) = place {
-        last.note(at);
-    }
-    place
+    place_noted(list, id, last)
 }
 
-// The same by halving.
+// The same by halving, and nothing is noted.
 fn place_of(list: &ObjectList, id: &Name) -> Result<usize, usize>
     requires { are_by_id list.now.objects ≡ true }
     ensures held { IfOk result (λ at. IsHeld (λ o. before o.id id.now) (λ o. before id.now o.id) list.now.objects at) }

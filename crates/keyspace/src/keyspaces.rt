@@ -85,6 +85,18 @@ impl Keyspace {
         }
     }
 
+    /// The same, looked for first where an object of the key was found last: for a command that comes back to the one it
+    /// found.
+    pub fn recall(&self, key: &Name, id: &Name) -> Option<&Object>
+        ensures none { IfNone result (find (is_at key.now id.now) (objects_in self.now) ≡ None) }
+        ensures some { IfSome result (λ o. find (is_at key.now id.now) (objects_in self.now) ≡ Some o.now) }
+    {
+        match place_of(self.collections.as_slice(), key) {
+            Ok(at) => self.collections[at].objects().recall(id),
+            Err(_) => None,
+        }
+    }
+
     /// The objects of this key; none where the key is not there, and it may be there without an object.
     pub fn collection(&self, key: &Name) -> Option<&Collection>
         ensures none { IfNone result (filter (has_key key.now) (objects_in self.now) ≡ []) }
