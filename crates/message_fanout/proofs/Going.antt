@@ -1,5 +1,5 @@
 -- Messages staged one after another: of the pairs of a roaming channel, and of some channels.
-use Rattle.std.proofs.Common.{◌≡◌, ◌≤◌, ◌<◌, ℕ, ◌+◌, Bool, true, refl, sym, ◌∙◌, ap, subst, List, [], ◌∷◌, ◌++◌, length, take, map, flat_map, arith}
+use Rattle.std.proofs.Common.{◌≡◌, ◌≤◌, ◌<◌, ℕ, ◌+◌, ◌||◌, Bool, true, false, refl, sym, ◌∙◌, ap, subst, List, [], ◌∷◌, ◌++◌, length, take, map, flat_map, arith}
 use Rattle.std.specs.Prelude.{Option, Some, None, IfSome, find, option_map, slice_get}
 use Rattle.std.specs.List.{list_all}
 use Rattle.std.proofs.lemmas.List.{take_all, append-nil, map-append, length-map}
@@ -19,6 +19,11 @@ use Rattle.session_table.specs.Fans.{AreBrought}
 use Rattle.session_table.specs.FanLaws.{brought_both}
 use Rattle.message_fanout.specs.Raises.{ArePairs, sent, detect_of}
 use Rattle.message_fanout.proofs.Payloads.{pair_in}
+
+-- neither of two
+pub neither : (p q : Bool) → (p || q) ≡ false → (p ≡ false) × (q ≡ false)
+neither true q e = absurd (let clash : true ≡ false = e in cc)
+neither false q e = (refl, e)
 
 -- channels one by one
 pub channel_more : (on : Channel → List Message) (a b d : List State) (channels : List Channel) (i : ℕ) (c : Channel) → slice_get channels i ≡ Some c

@@ -1,6 +1,7 @@
-//! What a change raises on one channel, staged for the sessions that hear it.
+//! What a change raises on one channel, staged for the sessions that hear it. Of a put it is answered whether something
+//! was raised: where nothing is, no session is looked at.
 
-ghost use Rattle.std.specs.Prelude.{◌≡◌, ◌∷◌, [], true, find, map, option_map, List, Some, None, OnOk};
+ghost use Rattle.std.specs.Prelude.{◌≡◌, ◌||◌, ◌∷◌, [], true, false, find, map, option_map, List, Some, None, IfOk, OnOk};
 ghost use Rattle.std.specs.List.{AllByRecursion};
 ghost use Rattle.byte_text.specs.Globs.{is_sound_glob};
 ghost use Rattle.world_data.specs.Sound.{is_sound_watch};
@@ -34,6 +35,13 @@ use world_data::{Channel, Detect, Object, Raised, Watch};
 // Most payloads have fewer bytes, so that their text takes memory once.
 const ROOM: usize = 256;
 
+/// Whether one of two is so.
+pub(crate) fn either(first: bool, second: bool) -> bool
+    ensures { result ≡ (first || second) }
+{
+    first || second
+}
+
 // Stages the message of one thing that is raised.
 fn stage_raised(
     alloc: Global,
@@ -42,17 +50,19 @@ fn stage_raised(
     raised: Raised,
     object: Option<&Object>,
     other: Option<&Object>,
-) -> Result<(), NoMemory>
+) -> Result<bool, NoMemory>
     requires { has_objects raised (option_map (λ o. o.now) object) (option_map (λ o. o.now) other) ≡ true }
     ensures same { map session_of sessions.new.items ≡ map session_of sessions.old.items }
     ensures staged { OnOk result (AreBrought
         (sent channel.now (payload_of channel.now raised (option_map (λ o. o.now) object.entry)
         (option_map (λ o. o.now) other.entry) ∷ []))
         sessions.old.items sessions.new.items) }
+    ensures quiet { IfOk result (λ told. told ≡ false → sessions.new ≡ sessions.old) }
 {
     let mut payload = Text::with_room(alloc, ROOM)?;
     push_message(&mut payload, channel, raised, object, other)?;
-    stage_message(alloc, sessions, &channel.name, &payload)
+    stage_message(alloc, sessions, &channel.name, &payload)?;
+    Ok(true)
 }
 
 // Stages the message of what is raised on one object, where something is.
@@ -62,15 +72,16 @@ fn stage_item(
     sessions: &mut Vec<Session>,
     raised: Option<Raised>,
     object: &Object,
-) -> Result<(), NoMemory>
+) -> Result<bool, NoMemory>
     requires { AllByRecursion (λ r. has_objects r (Some object.now) None ≡ true) (items raised None) }
     ensures same { map session_of sessions.new.items ≡ map session_of sessions.old.items }
     ensures staged { OnOk result (AreBrought (sent channel.now (payloads_of channel.now object.now (items raised None)))
         sessions.old.items sessions.new.items) }
+    ensures quiet { IfOk result (λ told. told ≡ false → sessions.new ≡ sessions.old) }
 {
     match raised {
         Some(raised) => stage_raised(alloc, channel, sessions, raised, Some(object), None),
-        None => Ok(()),
+        None => Ok(false),
     }
 }
 
@@ -81,15 +92,17 @@ fn stage_pair(
     sessions: &mut Vec<Session>,
     pair: Pair,
     object: &Object,
-) -> Result<(), NoMemory>
+) -> Result<bool, NoMemory>
     requires { AllByRecursion (λ r. has_objects r (Some object.now) None ≡ true) (items pair.first pair.second) }
     ensures same { map session_of sessions.new.items ≡ map session_of sessions.old.items }
     ensures staged { OnOk result
         (AreBrought (sent channel.now (payloads_of channel.now object.now (items pair.first pair.second)))
         sessions.old.items sessions.new.items) }
+    ensures quiet { IfOk result (λ told. told ≡ false → sessions.new ≡ sessions.old) }
 {
-    stage_item(alloc, channel, sessions, pair.first, object)?;
-    stage_item(alloc, channel, sessions, pair.second, object)
+    let first = stage_item(alloc, channel, sessions, pair.first, object)?;
+    let second = stage_item(alloc, channel, sessions, pair.second, object)?;
+    Ok(either(first, second))
 }
 
 // Stages what a put raises on a channel that watches an area.
@@ -99,12 +112,13 @@ fn stage_area(
     sessions: &mut Vec<Session>,
     old: Option<&Object>,
     new: &Object,
-) -> Result<(), NoMemory>
+) -> Result<bool, NoMemory>
     requires { is_sound_glob channel.now.fence.glob ≡ true }
     ensures same { map session_of sessions.new.items ≡ map session_of sessions.old.items }
     ensures staged { OnOk result
         (AreBrought (sent channel.now (area_payloads channel.now (option_map (λ o. o.now) old.entry) new.now))
         sessions.old.items sessions.new.items) }
+    ensures quiet { IfOk result (λ told. told ≡ false → sessions.new ≡ sessions.old) }
 {
     stage_pair(
         alloc,
@@ -131,14 +145,15 @@ fn stage_near(
     id: &Name,
     near: bool,
     new: &Object,
-) -> Result<(), NoMemory>
+) -> Result<bool, NoMemory>
     ensures same { map session_of sessions.new.items ≡ map session_of sessions.old.items }
     ensures staged { OnOk result ((o : Object) → find (has_id id.now) targets.now.objects ≡ Some o
         → AreBrought (sent channel.now (roam_payload channel.now.name new.now (o, detect_of near) ∷ []))
         sessions.old.items sessions.new.items) }
+    ensures quiet { IfOk result (λ told. told ≡ false → sessions.new ≡ sessions.old) }
 {
     let Some(other) = targets.get(id) else {
-        return Ok(());
+        return Ok(false);
     };
     stage_raised(
         alloc,
@@ -158,18 +173,21 @@ fn stage_pairs(
     pairs: &RoamList,
     sessions: &mut Vec<Session>,
     new: &Object,
-) -> Result<(), NoMemory>
+) -> Result<bool, NoMemory>
     ensures same { map session_of sessions.new.items ≡ map session_of sessions.old.items }
     ensures staged { OnOk result ((list : List (Object × Detect)) → ArePairs targets.now.objects list
         → pairs.now ≡ map shown list
         → AreBrought (sent channel.now (map (roam_payload channel.now.name new.now) list)) sessions.old.items
         sessions.new.items) }
+    ensures quiet { IfOk result (λ told. told ≡ false → sessions.new ≡ sessions.old) }
 {
+    let mut is_told = false;
     for i in 0..pairs.len() {
         let (id, near) = (pairs.id(i), pairs.is_near(i));
-        stage_near(alloc, channel, targets, sessions, id, near, new)?;
+        let told = stage_near(alloc, channel, targets, sessions, id, near, new)?;
+        is_told = either(is_told, told);
     }
-    Ok(())
+    Ok(is_told)
 }
 
 // Stages what a put raises on a channel that roams over the targets.
@@ -181,16 +199,17 @@ fn stage_roams<L: Ledger>(
     old: Option<&Object>,
     new: &Object,
     steps: &mut Steps<L>,
-) -> Result<(), NoMemory>
+) -> Result<bool, NoMemory>
     requires glob { is_sound_glob channel.now.fence.glob ≡ true }
     requires pattern { is_sound_watch channel.now.fence.watch ≡ true }
     ensures same { map session_of sessions.new.items ≡ map session_of sessions.old.items }
     ensures staged { OnOk result (AreBrought
         (sent channel.now (roam_payloads channel.now (option_map (λ o. o.now) old.entry) new.now targets.now.objects))
         sessions.old.items sessions.new.items) }
+    ensures quiet { IfOk result (λ told. told ≡ false → sessions.new ≡ sessions.old) }
 {
     if !channel.fence.wanted.set {
-        return Ok(());
+        return Ok(false);
     }
     let mut pairs = RoamList::new(alloc);
     near_pairs(alloc, &channel.fence, targets, old, new, &mut pairs, steps)?;
@@ -209,18 +228,19 @@ pub(crate) fn stage_put_on<L: Ledger>(
     old: Option<&Object>,
     new: &Object,
     steps: &mut Steps<L>,
-) -> Result<(), NoMemory>
+) -> Result<bool, NoMemory>
     requires glob { is_sound_glob channel.now.fence.glob ≡ true }
     requires pattern { is_sound_watch channel.now.fence.watch ≡ true }
     ensures same { map session_of sessions.new.items ≡ map session_of sessions.old.items }
     ensures staged { OnOk result ((w : World) → w.objects ≡ objects_in objects.now
         → object_at w new.now.key new.now.id ≡ option_map (λ o. o.now) old.entry
         → AreBrought (messages_on w (Put new.now) channel.now) sessions.old.items sessions.new.items) }
+    ensures quiet { IfOk result (λ told. told ≡ false → sessions.new ≡ sessions.old) }
 {
     match &channel.fence.watch {
         Watch::Roam(key, _, _, _) => match objects.collection(key) {
             Some(targets) => stage_roams(alloc, channel, targets, sessions, old, new, steps),
-            None => Ok(()),
+            None => Ok(false),
         },
         Watch::Zone(_, _) => stage_area(alloc, channel, sessions, old, new),
     }
@@ -244,7 +264,8 @@ pub(crate) fn stage_del_on(
         sessions,
         raised(channel, Some(old), None),
         old,
-    )
+    )?;
+    Ok(())
 }
 
 /// Stages what the drop of its key raises on a channel. For want of memory a part may be staged.
@@ -260,5 +281,6 @@ pub(crate) fn stage_drop_on(
     if !channel.fence.wanted.drop {
         return Ok(());
     }
-    stage_raised(alloc, channel, sessions, Raised::Drop, None, None)
+    stage_raised(alloc, channel, sessions, Raised::Drop, None, None)?;
+    Ok(())
 }

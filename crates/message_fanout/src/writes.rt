@@ -1,7 +1,7 @@
 //! What a write raises, staged for the sessions that hear it: on the channels alone that it may concern, in order of
 //! their names.
 
-ghost use Rattle.std.specs.Prelude.{◌≡◌, true, flat_map, map, option_map, Some, OnOk};
+ghost use Rattle.std.specs.Prelude.{◌≡◌, true, false, flat_map, map, option_map, Some, IfOk, OnOk};
 ghost use Rattle.std.specs.List.{list_all};
 ghost use Rattle.world_data.specs.Sound.{is_sound_channel};
 ghost use Rattle.world_data.specs.Worlds.{object_at};
@@ -16,7 +16,7 @@ ghost use Rattle.byte_text.specs.Globs.{is_sound_glob};
 ghost use Rattle.message_fanout.specs.Stagings.{IsBeforePut, IsBeforeDel, IsBeforeDrop, IsStagedIn};
 ghost use Rattle.message_fanout.specs.Stagings.{is_gone, messages_by, those_left};
 
-use crate::raises::{stage_del_on, stage_drop_on, stage_put_on};
+use crate::raises::{either, stage_del_on, stage_drop_on, stage_put_on};
 use byte_text::{Name, NoMemory};
 use channel_hub::{Candidates, Hub};
 use keyspace::Keyspace;
@@ -34,23 +34,27 @@ fn stage_put_at<L: Ledger>(
     old: Option<&Object>,
     new: &Object,
     steps: &mut Steps<L>,
-) -> Result<(), NoMemory>
+) -> Result<bool, NoMemory>
     requires { list_all is_sound_channel candidates.now ≡ true }
     ensures same { map session_of sessions.new.items ≡ map session_of sessions.old.items }
     ensures staged { OnOk result ((w : World) → w.objects ≡ objects_in objects.now
         → object_at w new.now.key new.now.id ≡ option_map (λ o. o.now) old.entry
         → AreBrought (flat_map (messages_on w (Put new.now)) candidates.now)
         sessions.old.items sessions.new.items) }
+    ensures quiet { IfOk result (λ told. told ≡ false → sessions.new ≡ sessions.old) }
 {
+    let mut is_told = false;
     for i in 0..candidates.len() {
-        stage_put_on(alloc, candidates.at(i), objects, sessions, old, new, steps)?;
+        let told = stage_put_on(alloc, candidates.at(i), objects, sessions, old, new, steps)?;
+        is_told = either(is_told, told);
     }
-    Ok(())
+    Ok(is_told)
 }
 
 /// Stages all that the put of an object raises, behind what is staged: `old` is the object of its key and id before it,
-/// and `objects` are all objects then, so that it is asked before the object is put. For want of memory a part may be
-/// staged. The steps rise by the nodes that are visited to find the channels, and what is near for those that roam.
+/// and `objects` are all objects then, so that it is asked before the object is put. It answers whether something is
+/// raised; where nothing is, no session is looked at. For want of memory a part may be staged. The steps rise by the
+/// nodes that are visited to find the channels, and what is near for those that roam.
 pub fn stage_put<L: Ledger>(
     alloc: Global,
     hub: &Hub,
@@ -59,12 +63,13 @@ pub fn stage_put<L: Ledger>(
     old: Option<&Object>,
     new: &Object,
     steps: &mut Steps<L>,
-) -> Result<(), NoMemory>
+) -> Result<bool, NoMemory>
     requires { list_all is_sound_channel hub.now.channels ≡ true }
     ensures same { map session_of sessions.new.items ≡ map session_of sessions.old.items }
     ensures staged { OnOk result
         (IsStagedIn (IsBeforePut hub.now.channels (objects_in objects.now) (option_map (λ o. o.now) old.entry) new.now)
         (announced (Put new.now)) sessions.old.items sessions.new.items) }
+    ensures quiet { IfOk result (λ told. told ≡ false → sessions.new ≡ sessions.old) }
 {
     let candidates = hub.candidates_of_put(alloc, old, new, steps)?;
     stage_put_at(alloc, &candidates, objects, sessions, old, new, steps)

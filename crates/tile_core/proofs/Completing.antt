@@ -1,12 +1,12 @@
 -- What was made ready is done, whatever room it leaves.
-use Rattle.std.proofs.Common.{◌≡◌, ℕ, ◌<◌, Bool, true, false, true≢false, refl, sym, ap, ◌∙◌, subst, List, length}
+use Rattle.std.proofs.Common.{◌≡◌, ℕ, ◌<◌, Bool, true, false, true≢false, refl, sym, ap, ◌∙◌, subst, List, [], ◌∷◌, length}
 use Rattle.std.specs.Prelude.{Some, None, Option, slice_get}
 use Rattle.std.proofs.lemmas.Option.{same_Some}
 use Rattle.byte_text.specs.Names.{Bytes}
 use Rattle.world_model.specs.Halls.{Session, is_live, placed_each}
 use Rattle.delivery_model.specs.Placing.{dead_takes_none}
 use Rattle.session_table.specs.Sessions.{AreReplies, State, session_of}
-use Rattle.session_table.specs.Fans.{ArePlaced}
+use Rattle.session_table.specs.Fans.{AreBare, ArePlaced, IsPlaced}
 use Rattle.channel_plans.specs.declared.planned.Planned.{Planned}
 use Rattle.tile_core.specs.declared.stores.Store.{Store}
 use Rattle.tile_core.specs.Ready.{CanComplete, IsDoneIf, reply_frames}
@@ -35,6 +35,13 @@ can_placed store old new at (Some p) lt placed_ can = (can.0, can.1, replies)
         let placed_lives : is_live (session_of u.0) ≡ true = subst (λ (x : State). is_live (session_of x) ≡ true) (sym is) lives in
         let lived = live_before (session_of s.0) s.0.mail.staged (ap is_live (sym u.2.same) ∙ placed_lives) in
         ap (λ (x : State). x.mail.replies) (sym is) ∙ u.2.replies placed_lives ∙ can.2 s.0 s.1 lived
+
+-- where nothing is staged, all is placed
+pub none_placed : (sessions : List State) → AreBare sessions → ArePlaced sessions sessions
+none_placed [] bare = tt
+none_placed (s ∷ sessions) bare =
+    let first : IsPlaced s s = record { same = sym (ap (placed_each (session_of s)) bare.0); bare = bare.0; replies = λ lives. refl } in
+    (first, none_placed sessions bare.1)
 
 -- keys that are given up leave the world
 pub done_as : (before s t : Store) (placed_ new : List State) (at : ℕ) (p : Option Planned) → world_at t ≡ world_at s → (IsStore s → IsStore t) → IsDoneIf before placed_ at p s new → IsDoneIf before placed_ at p t new

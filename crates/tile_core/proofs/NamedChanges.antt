@@ -6,7 +6,7 @@ use Rattle.std.proofs.lemmas.Option.{same_Some}
 use Rattle.world_model.specs.Halls as halls
 use Rattle.world_model.specs.Halls.{placed_each}
 use Rattle.delivery_model.specs.Placing.{each_number}
-use Rattle.session_table.specs.Fans.{ArePlaced}
+use Rattle.session_table.specs.Fans.{AreBare, ArePlaced}
 use Rattle.session_table.specs.Sessions.{State, session_of}
 use Rattle.tile_core.specs.Answered.{is_named, AreNamed, AreRoomy, StayNamed}
 
@@ -192,3 +192,8 @@ named_next named more sessions i s at kept before here k t lt there = by (nat_lt
 pub named_all : (named : List ℕ) (sessions : List State) → ((k : ℕ) (t : State) → slice_get sessions k ≡ Some t → (t.mail.staged ≡ []) ⊎ (is_named named t.number ≡ true)) → AreNamed named sessions
 named_all named [] all = tt
 named_all named (s ∷ sessions) all = (all zero s refl, named_all named sessions (λ k t at. all (suc k) t at))
+
+-- where nothing is staged, nobody is to be named
+pub none_told : (named : List ℕ) (sessions : List State) → AreBare sessions → AreNamed named sessions
+none_told named [] bare = tt
+none_told named (s ∷ sessions) bare = (inl bare.0, none_told named sessions bare.1)

@@ -143,6 +143,24 @@ module _ (quiet : QuietBringsNothing) (old store : Store) (now : ℕ) (gone : Go
         (due_staged quiet old now g.held.items before after_ sorted bare e.taken.stand (gone_are (objects_in old.objects) now old.weight (objects_in store.objects) g e) each);
   }
 
+-- where no write is due, nothing is staged
+
+front_none : (some rest : List Bytes) → [] ≡ some ++ rest → some ≡ []
+front_none [] rest e = refl
+front_none (x ∷ some) rest e = absurd (cc)
+
+bare_by_none : (w : World) (ss : List State) → HaveStaged w [] ss → AreBare ss
+bare_by_none w [] all = tt
+bare_by_none w (s ∷ ss) all = (front_none s.mail.staged all.0.rest all.0.front, bare_by_none w ss all.1)
+
+-- each record has a byte at least
+none_of_length : (writes : List Write) → records_len writes ≡ 0 → writes ≡ []
+none_of_length [] e = refl
+none_of_length (d ∷ writes) e = absurd (omega (arith, e))
+
+pub bare_by : (w : World) (writes : List Write) (ss : List State) → records_len writes ≡ 0 → HaveStaged w writes ss → AreBare ss
+bare_by w writes ss e all = bare_by_none w ss (subst (λ (ds : List Write). HaveStaged w ds ss) (none_of_length writes e) all)
+
 -- a store with the same objects, channels and weights is as good
 pub as_good : (s t : Store) → objects_in t.objects ≡ objects_in s.objects → t.hub.channels ≡ s.hub.channels → t.weight ≡ s.weight → t.due_from ≡ s.due_from → t.channel_weight ≡ s.channel_weight
     → t.channels_due_from ≡ s.channels_due_from → IsStore s → IsStore t
@@ -259,13 +277,15 @@ module _ (before mid store : Store) (now : ℕ) (asked : Asked) (at : ℕ) (g : 
   same_caller : session_of second.0 ≡ session_of first.0
   same_caller = same_at two one at second.0 first.0 same_two second.1 first.1
 
-  pub ready_from : (p : Option Planned) → IsRestBehind mid now asked at store one two p → IsReady before now asked at store two (record { gone = g; planned = p })
-  ready_from p rest = record {
+  pub ready_from : (p : Option Planned) (is_told : Bool) → (is_told ≡ false → AreBare two) → IsRestBehind mid now asked at store one two p
+      → IsReady before now asked at store two (record { gone = g; planned = p; is_told = is_told })
+  ready_from p is_told quiet rest = record {
     gone = record { world = taken.done.world ∙ sym (same_world mid store as_mid); length_is = taken.done.length_is; small = taken.done.small };
     kept = as_before mid store as_mid taken.kept;
     caller = second.0;
     here = second.1;
     rest = by p rest;
+    quiet = quiet;
   }
     where
       by : (q : Option Planned) → IsRestBehind mid now asked at store one two q → IsRestReady before store now asked second.0 two q

@@ -17,7 +17,7 @@ use Rattle.delivery_model.specs.Staging.{after_all, has_room_for, heard, listens
 use Rattle.delivery_model.specs.Plans.{effect_of_asked, ending}
 use Rattle.session_table.specs.Mail.{has_room_left}
 use Rattle.session_table.specs.Sessions.{AreReplies, AreSoundSubs, State, session_of}
-use Rattle.session_table.specs.Fans.{ArePlaced, HaveStaged}
+use Rattle.session_table.specs.Fans.{AreBare, ArePlaced, HaveStaged}
 use Rattle.object_plans.specs.declared.moves.ObjectChange.{ObjectChange}
 use Rattle.channel_plans.specs.declared.planned.ChannelChange.{ChannelChange}
 use Rattle.channel_plans.specs.declared.planned.ChannelChange.TheVariants.{Set, Drop}
@@ -165,6 +165,7 @@ pub record IsReady (before : Store) (now : ℕ) (asked : Asked) (at : ℕ) (stor
   pub caller : State
   pub here : slice_get sessions at ≡ Some caller
   pub rest : IsRestReady before store now asked caller sessions r.planned
+  pub quiet : r.is_told ≡ false → AreBare sessions
 
 -- the finish
 

@@ -251,7 +251,7 @@ impl Core {
         let Ok(ready) = ready else {
             return CallOutcome::Memory;
         };
-        name_told(touched, self.sessions.as_slice());
+        name_told(touched, self.sessions.as_slice(), ready.is_told);
         name_session(touched, session);
         self.clock = now;
         self.logged += complete(
@@ -325,7 +325,7 @@ impl Core {
             unstage(&mut self.sessions);
             return CallOutcome::Memory;
         };
-        name_told(touched, self.sessions.as_slice());
+        name_told(touched, self.sessions.as_slice(), true);
         place_staged(&mut self.sessions);
         self.clock = now;
         self.logged += ready.gone.length;

@@ -1,13 +1,13 @@
 //! The finish of a call that was made ready. It takes no memory.
 
-ghost use Rattle.std.specs.Prelude.{◌≡◌, ◌≤◌, ◌<◌, ◌+◌, ◌^◌, List, [], ◌∷◌, length};
+ghost use Rattle.std.specs.Prelude.{◌≡◌, ◌≤◌, ◌<◌, ◌+◌, ◌^◌, List, [], ◌∷◌, false, length};
 ghost use Rattle.world_model.specs.Halls.{placed, placed_each};
 ghost use Rattle.world_model.specs.Subscriptions.{Sub};
 ghost use Rattle.world_model.specs.Effects.{Effect};
 ghost use Rattle.keyspace.specs.Entries.{objects_in};
 ghost use Rattle.delivery_model.specs.Staging.{after_all};
 ghost use Rattle.session_table.specs.Sessions.{AreReplies, AreSoundSubs, session_of};
-ghost use Rattle.session_table.specs.Fans.{AreBare};
+ghost use Rattle.session_table.specs.Fans.{AreBare, ArePlaced};
 ghost use Rattle.tile_core.specs.Dues.{IsChannelDueFrom, IsDueFrom};
 ghost use Rattle.object_plans.specs.Moves.{HasRoom, HoldsOfPut, moved};
 ghost use Rattle.channel_plans.specs.Planned.{IsPlanned, channels_moved, without_names};
@@ -177,6 +177,17 @@ pub(crate) fn let_go(store: &mut Store, held: Vec<Object>)
     store.hub.let_go();
 }
 
+// Places all that is staged. Where nobody is told no session is looked at.
+fn place_told(sessions: &mut Vec<Session>, is_told: bool)
+    requires { is_told ≡ false → AreBare sessions.old.items }
+    ensures { ArePlaced sessions.old.items sessions.new.items }
+{
+    if !is_told {
+        return;
+    }
+    place_staged(sessions);
+}
+
 /// Places all that is staged, does what was made ready, and answers the session at the place. It takes no memory; that
 /// of the reply's frame is kept in a spare text. The bytes of the records of all changes are answered.
 pub(crate) fn complete(
@@ -188,12 +199,17 @@ pub(crate) fn complete(
 ) -> u64
     requires few { length (objects_in store.old.objects) < 2 ^ 32 }
     requires at { at < length sessions.old.items }
+    requires quiet { ready.is_told ≡ false → AreBare sessions.old.items }
     requires can { CanComplete store.old sessions.old.items at ready.planned }
     requires short { ready.gone.length + length_if ready.planned < 2 ^ 64 }
     ensures { IsCompleted store.old sessions.old.items at ready store.new sessions.new.items result }
 {
-    place_staged(sessions);
-    let Ready { gone, planned } = ready;
+    let Ready {
+        gone,
+        planned,
+        is_told,
+    } = ready;
+    place_told(sessions, is_told);
     let length = finish_planned(store, sessions, at, planned, spare);
     // Only now, since a key that has no object left may be that of the object that is put.
     let gone_length = gone.length;

@@ -2,7 +2,7 @@
 //! messages that it brings staged; then the records of all of it go to a ledger. Where that cannot be, all is as
 //! before.
 
-ghost use Rattle.std.specs.Prelude.{◌≡◌, ◌⊎◌, ◌≤◌, ◌<◌, ◌+◌, ◌++◌, ◌^◌, true, map, length, IfOk, OnErr, OnOk};
+ghost use Rattle.std.specs.Prelude.{◌≡◌, ◌⊎◌, ◌≤◌, ◌<◌, ◌+◌, ◌++◌, ◌^◌, true, false, map, length, IfOk, OnErr, OnOk};
 ghost use Rattle.std.specs.List.{list_all};
 ghost use Rattle.world_data.specs.Expiry.{deadline_of};
 ghost use Rattle.world_data.specs.Limits.{max_moment};
@@ -53,11 +53,13 @@ pub(crate) struct Gone {
     pub(crate) length: u64,
 }
 
-/// What was taken out, and what is to be done after that, but where its session is cut by what is due.
+/// What was taken out, and what is to be done after that, but where its session is cut by what is due. Where nobody is
+/// told, nothing is staged for any session.
 #[derive(Drop)]
 pub(crate) struct Ready {
     pub(crate) gone: Gone,
     pub(crate) planned: Option<Planned>,
+    pub(crate) is_told: bool,
 }
 
 // Stages what the dels of objects by their deadlines bring, and then takes the channels out that are due. For want of
@@ -226,7 +228,7 @@ fn hold_reply<G: Growths>(
 }
 
 // What is asked is planned for the session at a place, with the messages that it brings, its reply, which may stand in
-// the memory of a spare text, and room for the rest.
+// the memory of a spare text, and room for the rest; and whether somebody may be told.
 fn plan_request<G: Growths>(
     alloc: Global,
     store: &mut Store,
@@ -236,14 +238,15 @@ fn plan_request<G: Growths>(
     asked: &Asked,
     spare: &mut Text,
     growths: &mut G,
-) -> Result<Planned, NoMemory>
+) -> Result<(Planned, bool), NoMemory>
     requires kept { IsStore store.old }
     requires at { at < length sessions.old.items }
     requires moment { now ≤ max_moment }
     ensures room { IsRoomier store.old store.new }
     ensures same { map session_of sessions.new.items ≡ map session_of sessions.old.items }
     ensures planned { IfOk result (λ p.
-        IsPlannedBehind store.old now asked.now at store.new sessions.old.items sessions.new.items p) }
+        IsPlannedBehind store.old now asked.now at store.new sessions.old.items sessions.new.items p.0) }
+    ensures quiet { IfOk result (λ p. p.1 ≡ false → AreBare sessions.old.items → AreBare sessions.new.items) }
 {
     let context = Context {
         objects: &store.objects,
@@ -255,7 +258,7 @@ fn plan_request<G: Growths>(
     };
     let planned = plan_asked(alloc, context, asked, &mut store.steps, spare)?;
     make_room_for(alloc, store, &planned, growths)?;
-    stage_planned(
+    let is_told = stage_planned(
         alloc,
         &store.hub,
         &store.objects,
@@ -265,7 +268,7 @@ fn plan_request<G: Growths>(
         growths,
     )?;
     hold_reply(&mut sessions[at], &planned, growths)?;
-    Ok(planned)
+    Ok((planned, is_told))
 }
 
 // The same, but where the session has no room for what is staged for it: it will be cut, and its request not done.
@@ -278,22 +281,23 @@ fn plan_rest<G: Growths>(
     asked: &Asked,
     spare: &mut Text,
     growths: &mut G,
-) -> Result<Option<Planned>, NoMemory>
+) -> Result<(Option<Planned>, bool), NoMemory>
     requires kept { IsStore store.old }
     requires at { at < length sessions.old.items }
     requires moment { now ≤ max_moment }
     ensures room { IsRoomier store.old store.new }
     ensures same { map session_of sessions.new.items ≡ map session_of sessions.old.items }
     ensures planned { IfOk result (λ p.
-        IsRestBehind store.old now asked.now at store.new sessions.old.items sessions.new.items p) }
+        IsRestBehind store.old now asked.now at store.new sessions.old.items sessions.new.items p.0) }
+    ensures quiet { IfOk result (λ p. p.1 ≡ false → AreBare sessions.old.items → AreBare sessions.new.items) }
 {
     if !sessions[at].has_room_left() {
-        return Ok(None);
+        return Ok((None, false));
     }
     // Asked for what is planned, before its large locals are made.
     grown(growths)?;
     match plan_request(alloc, store, sessions, at, now, asked, spare, growths) {
-        Ok(planned) => Ok(Some(planned)),
+        Ok((planned, is_told)) => Ok((Some(planned), is_told)),
         Err(NoMemory) => Err(NoMemory),
     }
 }
@@ -366,8 +370,16 @@ pub(crate) fn make_tick_ready<L: RecordSink, G: Growths>(
     let ready = Ready {
         gone,
         planned: None,
+        is_told: true,
     };
     record_or_undo(alloc, store, sums, ready, records, ledger, growths)
+}
+
+// Whether somebody may be told: of what was due, or of what is asked.
+fn may_be_told(gone: &Gone, is_told: bool) -> bool
+    ensures { result ≡ false → (gone.now.length ≡ 0) × (is_told ≡ false) }
+{
+    gone.length > 0 || is_told
 }
 
 // Makes a call of the session at a place ready, and hands its records to the ledger. For want of memory the world is as
@@ -405,8 +417,12 @@ fn make_ready_in_part<L: RecordSink, G: Growths>(
         growths,
     );
     match planned {
-        Ok(planned) => {
-            let ready = Ready { gone, planned };
+        Ok((planned, is_told)) => {
+            let ready = Ready {
+                is_told: may_be_told(&gone, is_told),
+                gone,
+                planned,
+            };
             record_or_undo(
                 alloc,
                 store,

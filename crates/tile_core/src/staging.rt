@@ -5,7 +5,7 @@
 //! caller's reply. No request both subscribes and changes something, so the order of a caller's own messages and
 //! replies is never asked.
 
-ghost use Rattle.std.specs.Prelude.{◌≡◌, ◌∷◌, [], true, map, OnOk};
+ghost use Rattle.std.specs.Prelude.{◌≡◌, ◌∷◌, [], true, false, map, IfOk, OnOk};
 ghost use Rattle.std.specs.List.{list_all};
 ghost use Rattle.world_data.specs.Sound.{is_sound_channel};
 ghost use Rattle.world_data.specs.declared.worlds.Change.TheVariants as change;
@@ -119,7 +119,7 @@ fn stage_one<G: Growths>(
     if hub.len() == 0 {
         return Ok(());
     }
-    match objects.get(key, id) {
+    match objects.recall(key, id) {
         Some(object) => {
             grown(growths)?;
             stage_del(alloc, hub, sessions, object, 0, steps)
@@ -128,7 +128,8 @@ fn stage_one<G: Growths>(
     }
 }
 
-// Stages what the put of an object brings, told to those who watch where it is announced.
+// Stages what the put of an object brings, told to those who watch where it is announced, and answers whether somebody
+// may be told.
 fn stage_object<G: Growths>(
     alloc: Global,
     hub: &Hub,
@@ -138,27 +139,28 @@ fn stage_object<G: Growths>(
     sessions: &mut Vec<Session>,
     steps: &mut Steps<Visits>,
     growths: &mut G,
-) -> Result<(), NoMemory>
+) -> Result<bool, NoMemory>
     requires { list_all is_sound_channel hub.now.channels ≡ true }
     ensures same { map session_of sessions.new.items ≡ map session_of sessions.old.items }
     ensures staged { OnOk result (StagesBehind (world_with hub.now.channels (objects_in objects.now))
         (record { change = change.Put object.now; announced = announced } ∷ []) sessions.old.items sessions.new.items) }
+    ensures quiet { IfOk result (λ told. told ≡ false → sessions.new ≡ sessions.old) }
 {
     // A law, of which nothing is left at run time.
     turn_laws();
     if !announced {
-        return Ok(());
+        return Ok(false);
     }
     // Where no channel stands nobody is told, and the object's place need not be sought again.
     if hub.len() == 0 {
-        return Ok(());
+        return Ok(false);
     }
-    let old = objects.get(&object.key, &object.id);
+    let old = objects.recall(&object.key, &object.id);
     grown(growths)?;
     stage_put(alloc, hub, objects, sessions, old, object, steps)
 }
 
-// Stages what a move of the objects brings.
+// Stages what a move of the objects brings, and answers whether somebody may be told.
 fn stage_move<G: Growths>(
     alloc: Global,
     hub: &Hub,
@@ -168,35 +170,39 @@ fn stage_move<G: Growths>(
     sessions: &mut Vec<Session>,
     steps: &mut Steps<Visits>,
     growths: &mut G,
-) -> Result<(), NoMemory>
+) -> Result<bool, NoMemory>
     requires sound { list_all is_sound_channel hub.now.channels ≡ true }
     requires there { HaveAllThere (objects_in objects.now) action.now }
     ensures same { map session_of sessions.new.items ≡ map session_of sessions.old.items }
     ensures staged { OnOk result (StagesBehind (world_with hub.now.channels (objects_in objects.now))
         (writes_of action.now announced) sessions.old.items sessions.new.items) }
+    ensures quiet { IfOk result (λ told. told ≡ false → sessions.new ≡ sessions.old) }
 {
     // A law, of which nothing is left at run time.
     turn_laws();
     match action {
-        ObjectChange::Stay | ObjectChange::Clear => Ok(()),
+        ObjectChange::Stay | ObjectChange::Clear => Ok(false),
         ObjectChange::Put(object) => stage_object(
             alloc, hub, objects, object, announced, sessions, steps, growths,
         ),
-        ObjectChange::Delete(key, id) => stage_one(
-            alloc, hub, objects, key, id, sessions, steps, growths,
-        ),
-        ObjectChange::DeleteEach(key, ids) => stage_each(
-            alloc, hub, objects, key, ids, sessions, steps, growths,
-        ),
+        ObjectChange::Delete(key, id) => {
+            stage_one(alloc, hub, objects, key, id, sessions, steps, growths)?;
+            Ok(true)
+        }
+        ObjectChange::DeleteEach(key, ids) => {
+            stage_each(alloc, hub, objects, key, ids, sessions, steps, growths)?;
+            Ok(true)
+        }
         ObjectChange::DropKey(key) => {
             grown(growths)?;
-            stage_drop(alloc, hub, sessions, key)
+            stage_drop(alloc, hub, sessions, key)?;
+            Ok(true)
         }
     }
 }
 
-/// Stages what a request brings, behind what is due. Changes of channels bring nothing. For want of memory a part may
-/// be staged.
+/// Stages what a request brings, behind what is due, and answers whether somebody may be told: where nobody is, no
+/// session is looked at. Changes of channels bring nothing. For want of memory a part may be staged.
 pub(crate) fn stage_planned<G: Growths>(
     alloc: Global,
     hub: &Hub,
@@ -205,12 +211,13 @@ pub(crate) fn stage_planned<G: Growths>(
     sessions: &mut Vec<Session>,
     steps: &mut Steps<Visits>,
     growths: &mut G,
-) -> Result<(), NoMemory>
+) -> Result<bool, NoMemory>
     requires sound { list_all is_sound_channel hub.now.channels ≡ true }
     requires there { HoldsOfObjects (HaveAllThere (objects_in objects.now)) planned.now }
     ensures same { map session_of sessions.new.items ≡ map session_of sessions.old.items }
     ensures staged { OnOk result (StagesBehind (world_with hub.now.channels (objects_in objects.now))
         (planned_writes planned.now) sessions.old.items sessions.new.items) }
+    ensures quiet { IfOk result (λ told. told ≡ false → sessions.new ≡ sessions.old) }
 {
     // A law, of which nothing is left at run time.
     turn_laws();
@@ -227,7 +234,7 @@ pub(crate) fn stage_planned<G: Growths>(
                 growths,
             )
         }
-        Planned::Channels(_plan) => Ok(()),
-        Planned::Subscribed(_) => Ok(()),
+        Planned::Channels(_plan) => Ok(false),
+        Planned::Subscribed(_) => Ok(false),
     }
 }

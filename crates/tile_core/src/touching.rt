@@ -2,6 +2,7 @@
 
 ghost use Rattle.std.specs.Prelude.{◌≡◌, ◌≤◌, ◌<◌, ◌++◌, ◌∷◌, [], false, length, if◌then◌else◌};
 ghost use Rattle.world_data.specs.Limits.{max_sessions};
+ghost use Rattle.session_table.specs.Fans.{AreBare};
 ghost use Rattle.tile_core.specs.Answered.{AreNamed, AreRoomy, StayNamed, is_named};
 
 use session_table::Session;
@@ -19,14 +20,19 @@ pub(crate) fn name_session(touched: &mut ChangedSessions, session: u32)
     }
 }
 
-/// Names the sessions for which something is staged, beside those that are named.
-pub(crate) fn name_told(touched: &mut ChangedSessions, sessions: &[Session])
+/// Names the sessions for which something is staged, beside those that are named. Where nobody is told no session is
+/// looked at.
+pub(crate) fn name_told(touched: &mut ChangedSessions, sessions: &[Session], is_told: bool)
+    requires quiet { is_told ≡ false → AreBare sessions.now }
     requires few { length sessions.now ≤ max_sessions }
     requires room { AreRoomy touched.old sessions.now }
     ensures named { AreNamed touched.new sessions.now }
     ensures kept { StayNamed touched.old touched.new }
     ensures room { AreRoomy touched.new sessions.now }
 {
+    if !is_told {
+        return;
+    }
     for i in 0..sessions.len() {
         if sessions[i].is_told() {
             name_session(touched, sessions[i].number());

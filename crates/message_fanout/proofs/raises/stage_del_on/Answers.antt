@@ -1,7 +1,6 @@
 use Rattle.std.proofs.Common.{◌≡◌, ◌∙◌, sym, ap, subst, List, true}
 use Rattle.std.specs.Prelude.{None, Some}
 use Rattle.std.specs.List.{AllByRecursion}
-use Rattle.std.proofs.lemmas.Result.{on_ok_weaker}
 use Rattle.byte_text.specs.Names.{Bytes}
 use Rattle.world_data.specs.declared.channels.Raised.{Raised}
 use Rattle.message_text.specs.Payloads.{has_objects}
@@ -18,7 +17,5 @@ pub returns-clause-staged : goal.returns-clause-staged
 returns-clause-staged c =
     let ch = c.args.channel.now in
     let old = c.args.old.now in
-    on_ok_weaker c.stage_pair.result
-    (λ staged w found. subst (λ (ps : List Bytes). AreBrought (sent ch ps) c.args.sessions.now.items c.stage_pair.new.sessions.items)
-    (ap (payloads_of ch old) c.raised.ensures ∙ sym (del_payloads_are w old ch found)) staged)
-    c.stage_pair.ensures.staged
+    λ w found. subst (λ (ps : List Bytes). AreBrought (sent ch ps) c.args.sessions.now.items c.stage_pair.new.sessions.items)
+    (ap (payloads_of ch old) c.raised.ensures ∙ sym (del_payloads_are w old ch found)) c.in_ok-stage_pair.ensures.staged

@@ -1,12 +1,12 @@
-use Rattle.std.proofs.Common.{◌≡◌, sym, subst, List, true}
+use Rattle.std.proofs.Common.{◌≡◌, ◌∙◌, sym, subst, List, true}
 use Rattle.std.specs.Prelude.{None, Some}
-use Rattle.std.proofs.lemmas.Result.{on_ok_weaker}
 use Rattle.fence_model.specs.Messages.{Message}
 use Rattle.fence_table.specs.Pairs.{items}
 use Rattle.message_text.specs.Payloads.{has_objects}
 use Rattle.session_table.specs.Fans.{AreBrought}
 use Rattle.session_table.specs.FanLaws.{brought_both}
 use Rattle.message_fanout.specs.Raises.{sent, payloads_of}
+use Rattle.message_fanout.proofs.Going.{neither}
 use Rattle.message_fanout.proofs.Payloads.{first_holds, second_holds, pair_sent}
 use Rattle.message_fanout.proofs.raises.stage_pair.Goals as goal
 
@@ -24,7 +24,8 @@ returns-clause-staged c =
     let second = c.args.pair.second in
     let a = c.args.sessions.now.items in
     let d = c.stage_item-2.new.sessions.items in
-    on_ok_weaker c.stage_item-2.result
-    (λ next. subst (λ (ms : List Message). AreBrought ms a d) (sym (pair_sent ch o first second))
-    (brought_both (sent ch (payloads_of ch o (items first None))) (sent ch (payloads_of ch o (items second None))) a c.stage_item.new.sessions.items d c.in_ok-stage_item.ensures.staged next))
-    c.stage_item-2.ensures.staged
+    subst (λ (ms : List Message). AreBrought ms a d) (sym (pair_sent ch o first second))
+    (brought_both (sent ch (payloads_of ch o (items first None))) (sent ch (payloads_of ch o (items second None))) a c.stage_item.new.sessions.items d c.in_ok-first.ensures.staged c.in_ok-second.ensures.staged)
+
+pub returns-clause-quiet : goal.returns-clause-quiet
+returns-clause-quiet c = λ is. let none = neither c.in_ok-first.first c.in_ok-second.second (sym c.either.ensures ∙ is) in c.in_ok-second.ensures.quiet none.1 ∙ c.in_ok-first.ensures.quiet none.0

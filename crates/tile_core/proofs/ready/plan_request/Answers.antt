@@ -7,12 +7,14 @@ use Rattle.world_model.specs.Subscriptions.{Sub}
 use Rattle.keyspace.specs.Entries.{objects_in}
 use Rattle.delivery_model.specs.Plans.{effect_of_asked}
 use Rattle.session_table.specs.Sessions.{State, session_of}
+use Rattle.session_table.specs.Fans.{AreBare}
 use Rattle.session_table.specs.FanLaws.{same_set}
 use Rattle.object_plans.specs.Moves.{world_with}
 use Rattle.channel_plans.specs.Planned.{IsPlanned}
 use Rattle.tile_core.specs.Ready.{planned_writes}
 use Rattle.tile_core.specs.Staged.{StagesBehind}
 use Rattle.tile_core.specs.Stores.{world_at}
+use Rattle.tile_core.proofs.Finishing.{bare_at, bare_set}
 use Rattle.tile_core.proofs.Present.{get_set}
 use Rattle.tile_core.proofs.Readying.{as_long, roomier, same_world, staged_set}
 use Rattle.tile_core.proofs.ready.plan_request.Goals as goal
@@ -40,6 +42,14 @@ returns-clause-same g c =
     let at = read_there old mid c.args.at s c.stage_planned.ensures.same c.requires.at (λ lt. slice_get_read mid (length mid) c.args.at s refl lt c.index_mut.ensures.value) in
     same_set mid c.args.at s c.hold_reply.new.caller at c.hold_reply.ensures.same ∙ c.stage_planned.ensures.same
 
+pub returns-clause-quiet : goal.returns-clause-quiet
+returns-clause-quiet g c = λ is bare.
+    let mid = c.stage_planned.new.sessions.items in
+    let s = c.index_mut.result.now in
+    let still : AreBare mid = subst AreBare (sym (ap (λ v. v.items) (c.in_ok-is_told.ensures.quiet is))) bare in
+    let at = read_there c.args.sessions.now.items mid c.args.at s c.stage_planned.ensures.same c.requires.at (λ lt. slice_get_read mid (length mid) c.args.at s refl lt c.index_mut.ensures.value) in
+    bare_set mid c.args.at c.hold_reply.new.caller still (c.hold_reply.ensures.staged ∙ bare_at mid c.args.at s still at)
+
 pub returns-clause-planned : goal.returns-clause-planned
 returns-clause-planned g c =
     let store = c.args.store.now in
@@ -50,7 +60,7 @@ returns-clause-planned g c =
     let p = c.in_ok-planned.planned in
     let at = read_there old mid c.args.at s c.stage_planned.ensures.same c.requires.at (λ lt. slice_get_read mid (length mid) c.args.at s refl lt c.index_mut.ensures.value) in
     let world : world_with c.make_room_for.new.store.hub.channels (objects_in c.make_room_for.new.store.objects) ≡ world_at store = same_world (record store { steps = c.plan_asked.new.steps }) c.make_room_for.new.store c.make_room_for.ensures.kept.before in
-    let behind : StagesBehind (world_at store) (planned_writes p) old mid = subst (λ (w : World). StagesBehind w (planned_writes p) old mid) world c.in_ok-stage_planned.ensures.staged in
+    let behind : StagesBehind (world_at store) (planned_writes p) old mid = subst (λ (w : World). StagesBehind w (planned_writes p) old mid) world c.in_ok-is_told.ensures.staged in
     record {
       plan = λ t here.
           let subs : c.subscriptions.result.now ≡ t.subs = c.subscriptions.ensures.same ∙ ap (λ (x : State). x.subs) (c.index.ensures ∙ got_at old c.args.at t c.index.result.now here) in
@@ -74,8 +84,8 @@ returns-in_err-hold_reply-clause-room g c =
     let room = c.make_room_for.new.store in
     roomier store (record store { steps = c.plan_asked.new.steps }) room (record room { steps = c.stage_planned.new.steps }) refl c.make_room_for.ensures.kept refl
 
-pub returns-in_err-stage_planned-clause-room : goal.returns-in_err-stage_planned-clause-room
-returns-in_err-stage_planned-clause-room g c =
+pub returns-in_err-is_told-clause-room : goal.returns-in_err-is_told-clause-room
+returns-in_err-is_told-clause-room g c =
     let store = c.args.store.now in
     let room = c.make_room_for.new.store in
     roomier store (record store { steps = c.plan_asked.new.steps }) room (record room { steps = c.stage_planned.new.steps }) refl c.make_room_for.ensures.kept refl

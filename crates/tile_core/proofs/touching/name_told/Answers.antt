@@ -4,7 +4,7 @@ use Rattle.std.proofs.lemmas.Option.{slice_get_within}
 use Rattle.ordered_lists.specs.Reading.{stands_at}
 use Rattle.session_table.specs.Sessions.{State}
 use Rattle.tile_core.specs.Answered.{AreRoomy, StayNamed, is_named}
-use Rattle.tile_core.proofs.NamedChanges.{is_it, named_all, named_next, room_for_one, stay, still_roomy, with_name}
+use Rattle.tile_core.proofs.NamedChanges.{is_it, named_all, named_next, none_told, room_for_one, stay, still_roomy, with_name}
 use Rattle.tile_core.proofs.touching.name_told.Goals as goal
 use Rattle.tile_core.proofs.touching.name_told.Goals.{then-is_told, else-is_told}
 
@@ -49,3 +49,6 @@ returns-clause-named c =
     let l = c.loop-i in
     let xs = c.args.sessions.now in
     named_all l.touched xs (λ k s at. l.invariant.2 k s (let lt : k < length xs = slice_get_within xs k s at in omega (arith, lt, c.loop-i-test.false)) at)
+
+pub returns-then-not-is_told-clause-named : goal.returns-then-not-is_told-clause-named
+returns-then-not-is_told-clause-named c = none_told c.args.touched.now c.args.sessions.now (c.requires.quiet c.if-not-is_told.true)

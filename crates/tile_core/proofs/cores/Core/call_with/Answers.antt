@@ -8,6 +8,7 @@ use Rattle.world_model.specs.declared.events.Outcome.TheVariants as outcome
 use Rattle.world_model.specs.declared.events.CallOutcome.{CallOutcome}
 use Rattle.world_model.specs.declared.events.CallOutcome.TheVariants as called
 use Rattle.keyspace.specs.Entries.{objects_in}
+use Rattle.session_table.specs.Fans.{AreBare}
 use Rattle.session_table.specs.Sessions.{State}
 use Rattle.tile_core.specs.CoreStates.{CoreState}
 use Rattle.tile_core.specs.Answered.{AreNamed, AreRoomy, AreSessions, IsAnswered, MayCall, is_named}
@@ -133,6 +134,12 @@ name_session-requires g c = λ was.
     let long = as_long mid k.sessions.items c.make_ready-ready.ensures.same in
     let few = c.self.invariant.present.few in
     omega (arith, lt, long, few)
+
+pub name_told-requires-clause-quiet : goal.name_told-requires-clause-quiet
+name_told-requires-clause-quiet g c = λ is. subst AreBare (sym c.as_slice-2.ensures.value) (c.in-Ok-ready.ensures.ready.quiet is)
+
+pub complete-requires-clause-quiet : goal.complete-requires-clause-quiet
+complete-requires-clause-quiet g c = c.in-Ok-ready.ensures.ready.quiet
 
 pub complete-requires-clause-few : goal.complete-requires-clause-few
 complete-requires-clause-few g c =
