@@ -1,11 +1,11 @@
 #!/usr/bin/env bash
 # Measures what a request costs on one thread, from the bytes of the request to the frame taken: nanoseconds, and allocations where
 # valgrind is there (as the difference of two runs, so that filling is not counted).
-# Usage: bench/core.sh [COUNT]   COUNT requests a row, 1000000 if left out.
+# Usage: bench/core.sh [COUNT]   COUNT requests a row, 1000000 if left out. PROGRAM may name another program than the repository's.
 set -eu
 cd "$(dirname "$0")/.."
 count=${1:-1000000}
-program=crates/benchmarks/out/benchmarks
+program=${PROGRAM:-crates/benchmarks/out/benchmarks}
 
 [ -x "$program" ] || (cd crates/benchmarks && rt run >/dev/null)
 

@@ -8,13 +8,14 @@
 # a second from the start of the process to its first answer, medians of three as well, and the bytes of both logs. The last rows tell of
 # one client that sets objects one after another while the log is rewritten (AOFSHRINK here, BGREWRITEAOF there): seconds until the new log
 # stands, SETs a second in that time, and the longest wait for an answer in milliseconds; before them the same for as long without a rewriting.
-# Both logs are made where TMPDIR says, which has to be on a disk: in a folder in memory a sync costs nothing.
+# Both logs are made where TMPDIR says, which has to be on a disk: in a folder in memory a sync costs nothing. PROGRAM may name another program
+# than the repository's.
 set -eu
 cd "$(dirname "$0")/.."
 requests=${1:-20000}
 objects=${2:-1000000}
 port=19861 redis_port=16389
-program=$PWD/crates/tile_server/out/tile_server
+program=$(realpath -m "${PROGRAM:-crates/tile_server/out/tile_server}")
 work=$(mktemp -d)
 ulimit -n 4096 2>/dev/null || true
 ours='' theirs=''
@@ -25,8 +26,8 @@ for tool in redis-cli redis-benchmark redis-server python3; do
     command -v "$tool" >/dev/null || { echo "log: $tool is not there (Debian: redis-tools, redis-server, python3)"; missing=1; }
 done
 [ "$missing" = 0 ] || exit 1
-# Builds the program where it is older than its sources.
-./fudrask load 1 1 >/dev/null
+# Builds the program where it is older than its sources, but where PROGRAM names another.
+[ -n "${PROGRAM:-}" ] || ./fudrask load 1 1 >/dev/null
 echo "log: the folder is on $(stat -f -c %T "$work")"
 
 # Where a server's log stands: here, or Redis.
