@@ -7,6 +7,8 @@ mod cores;
 #[cfg(test)]
 mod counters;
 #[cfg(test)]
+mod crossed_waits;
+#[cfg(test)]
 mod durables;
 #[cfg(test)]
 mod hall_ends;
@@ -25,6 +27,10 @@ mod positions;
 #[cfg(test)]
 mod requests;
 #[cfg(test)]
+mod seated;
+#[cfg(test)]
 mod stores;
 #[cfg(test)]
 mod system;
+#[cfg(test)]
+mod two_loops;

@@ -10,8 +10,8 @@ use resp_frames::Requests;
 use std::alloc::Global;
 use world_model::{Asked, AskedList};
 
-// Appends the array of a line's words. For want of memory some of it may stand there.
-fn push_line(text: &mut Text, line: &str) -> Result<(), NoMemory> {
+/// Appends the array of a line's words. For want of memory some of it may stand there.
+pub(crate) fn push_line(text: &mut Text, line: &str) -> Result<(), NoMemory> {
     push_array_head(text, line.split(' ').count())?;
     for word in line.split(' ') {
         push_bulk(text, word.as_bytes())?;

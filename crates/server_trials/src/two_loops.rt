@@ -1,0 +1,166 @@
+//! Two loops serve their callers on one hall.
+
+use crate::crossed_waits::{CrossedWait, OtherLoop};
+use crate::halls::hall_over;
+use crate::requests::push_line;
+use crate::seated::Seated;
+use byte_text::{NoMemory, Text};
+use outside::{
+    BytesSink, CallerScript, DoorScript, Move, Named, PlainDisk, ScriptedDoor, ScriptedLink,
+    ScriptedWait, Visit,
+};
+use std::alloc::Global;
+use std::test::Fail;
+use world_model::HallSplit;
+
+// What the callers of the first loop ask. The last one comes when the other loop has ended.
+const LISTENS: [&str; 3] = [
+    "SETCHAN f WITHIN k FENCE DETECT enter BOUNDS 0 0 5 5",
+    "SET k b POINT 3 4",
+    "SUBSCRIBE f",
+];
+
+const READS: [&str; 1] = ["GET k a"];
+
+const LISTENS_LATE: [&str; 1] = ["WITHIN k FENCE DETECT enter BOUNDS 0 0 5 5"];
+
+// What the callers of the other loop ask.
+const LISTENS_THERE: [&str; 1] = ["WITHIN k FENCE DETECT enter BOUNDS 0 0 5 5"];
+
+const SETS_THERE: [&str; 2] = ["GET k b", "SET k a POINT 1 2"];
+
+// What each of them is told, in the same order. A live fence tells the number of its link's session: 1 and 2 are those
+// of the first loop's callers, 3 and 4 those of the other's, and 5 that of the session by which the other loop takes the
+// channel away that its live fence leaves behind.
+const TOLD_LISTENER: [&str; 6] = [
+    ":1\r\n",
+    "+OK\r\n",
+    "*3\r\n$9\r\nsubscribe\r\n$1\r\nf\r\n:1\r\n",
+    "*3\r\n$7\r\nmessage\r\n$1\r\nf\r\n$110\r\n",
+    r#"{"command":"set","detect":"enter","hook":"f","key":"k","id":"a","object":{"type":"Point","coordinates":[2,1]}}"#,
+    "\r\n",
+];
+
+const TOLD_READER: [&str; 1] = ["$36\r\n{\"type\":\"Point\",\"coordinates\":[2,1]}\r\n"];
+
+const TOLD_LATE_LISTENER: [&str; 2] = [":1\r\n", "*3\r\n$9\r\nsubscribe\r\n$6\r\nlive/6\r\n:1\r\n"];
+
+const TOLD_LISTENER_THERE: [&str; 5] = [
+    ":1\r\n",
+    "*3\r\n$9\r\nsubscribe\r\n$6\r\nlive/3\r\n:1\r\n",
+    "$115\r\n",
+    r#"{"command":"set","detect":"enter","hook":"live/3","key":"k","id":"a","object":{"type":"Point","coordinates":[2,1]}}"#,
+    "\r\n",
+];
+
+const TOLD_SETTER_THERE: [&str; 2] = [
+    "$36\r\n{\"type\":\"Point\",\"coordinates\":[4,3]}\r\n",
+    "+OK\r\n",
+];
+
+// A caller who asks so, and whose link is read so; behind that it is at its end.
+fn caller(alloc: Global, lines: &[&str], reads: Vec<Move>) -> Result<Visit, NoMemory> {
+    let mut text = Text::new(alloc);
+    for line in lines {
+        push_line(&mut text, line)?;
+    }
+    Ok(Visit::Comes(CallerScript {
+        sends: text.bytes().to_vec(alloc)?,
+        stays: false,
+        reads,
+        writes: Vec::new(alloc),
+    }))
+}
+
+// A door of which nobody comes any more behind these.
+fn door_of(alloc: Global, visits: Vec<Visit>) -> ScriptedDoor {
+    let script = DoorScript {
+        visits,
+        stays: false,
+        opens: true,
+    };
+    ScriptedDoor::new(alloc, script)
+}
+
+fn sink(alloc: Global) -> BytesSink {
+    BytesSink::new(alloc, usize::MAX, Vec::new(alloc))
+}
+
+// The first loop's callers: one who listens, one whose request comes with the second look at its link, and one who comes
+// when the door is looked at again.
+fn first_door(alloc: Global) -> Result<ScriptedDoor, NoMemory> {
+    let once = vec![in alloc; Move::Most(usize::MAX), Move::Later]?;
+    let second = vec![in alloc; Move::Later]?;
+    let listens = caller(alloc, &LISTENS, once)?;
+    let reads = caller(alloc, &READS, second)?;
+    let late = caller(alloc, &LISTENS_LATE, Vec::new(alloc))?;
+    let visits = vec![in alloc; listens, reads, Visit::Nobody, late]?;
+    Ok(door_of(alloc, visits))
+}
+
+// Two waits of the first loop name nobody. The next one names the door and both links, and those behind it all.
+fn first_wait(alloc: Global) -> Result<ScriptedWait, NoMemory> {
+    let all = vec![in alloc; Named::Door, Named::Link(1), Named::Link(0)]?;
+    let waits = vec![in alloc; Vec::new(alloc), Vec::new(alloc), all]?;
+    ScriptedWait::new(alloc, waits)
+}
+
+// The other loop: one of its callers listens, and the other one reads what the first loop set, and sets.
+fn other_loop(alloc: Global, seated: Seated<'_>) -> Result<OtherLoop<'_>, NoMemory> {
+    let once = vec![in alloc; Move::Most(usize::MAX), Move::Later]?;
+    let listens = caller(alloc, &LISTENS_THERE, once)?;
+    let sets = caller(alloc, &SETS_THERE, Vec::new(alloc))?;
+    let visits = vec![in alloc; listens, sets]?;
+    let wait = ScriptedWait::new(alloc, Vec::new(alloc))?;
+    let door = door_of(alloc, visits);
+    Ok(OtherLoop::new(alloc, seated, door, wait, sink(alloc)))
+}
+
+// Whether a caller was written these parts, and nothing else.
+fn is_told(
+    alloc: Global,
+    links: &[ScriptedLink],
+    caller: u64,
+    parts: &[&str],
+) -> Result<bool, NoMemory> {
+    let mut told = Text::new(alloc);
+    for part in parts {
+        told.push(part.as_bytes())?;
+    }
+    for link in links {
+        if link.caller() == caller {
+            return Ok(link.written() == told.bytes());
+        }
+    }
+    Ok(false)
+}
+
+#[test]
+fn what_one_loop_sets_another_tells_and_reads(rt: HostRuntime) -> Result<(), Fail> {
+    let alloc = rt.alloc();
+    let (hall, mut seat) = hall_over(alloc, PlainDisk::new(alloc))?;
+    let other = other_loop(alloc, Seated::new(&hall, hall.split(&mut seat)))?;
+    let mut first = Seated::new(&hall, seat);
+    let mut door = first_door(alloc)?;
+    let mut lines = sink(alloc);
+    let mut wait = CrossedWait::new(&rt, first_wait(alloc)?, 1, other);
+    let status = first.serve(&rt, alloc, &mut lines, &mut door, &mut wait);
+    assert_eq!(rt; status, 0);
+    assert_eq!(rt; lines.written(), b"listening door\nserved 3\n".as_slice());
+    let links = wait.shut_links();
+    assert!(rt; is_told(alloc, links, 0, &TOLD_LISTENER)?);
+    assert!(rt; is_told(alloc, links, 1, &TOLD_READER)?);
+    assert!(rt; is_told(alloc, links, 2, &TOLD_LATE_LISTENER)?);
+    let other = &wait.other;
+    assert_eq!(rt; other.status, Some(0));
+    assert_eq!(rt;
+        other.sink.written(),
+        b"listening door\nserved 2\n".as_slice()
+    );
+    let links = other.wait.shut_links();
+    assert!(rt; is_told(alloc, links, 0, &TOLD_LISTENER_THERE)?);
+    assert!(rt; is_told(alloc, links, 1, &TOLD_SETTER_THERE)?);
+    // The seventh number took away the channel of the late listener.
+    assert_eq!(rt; first.enter(&rt), Ok(8));
+    Ok(())
+}
