@@ -13,7 +13,8 @@ use std::alloc::Global;
 use std::test::Fail;
 use world_model::HallSplit;
 
-// What the callers of the first loop ask. The last one comes when the other loop has ended.
+// What the callers of the first loop ask: one listens, one reads, and one listens who comes when the other loop has
+// ended.
 const LISTENS: [&str; 3] = [
     "SETCHAN f WITHIN k FENCE DETECT enter BOUNDS 0 0 5 5",
     "SET k b POINT 3 4",
@@ -24,36 +25,41 @@ const READS: [&str; 1] = ["GET k a"];
 
 const LISTENS_LATE: [&str; 1] = ["WITHIN k FENCE DETECT enter BOUNDS 0 0 5 5"];
 
-// What the callers of the other loop ask.
+// What the callers of the other loop ask: one listens, and one reads what the first loop set, and sets.
 const LISTENS_THERE: [&str; 1] = ["WITHIN k FENCE DETECT enter BOUNDS 0 0 5 5"];
 
 const SETS_THERE: [&str; 2] = ["GET k b", "SET k a POINT 1 2"];
 
-// What each of them is told, in the same order. A live fence tells the number of its link's session: 1 and 2 are those
-// of the first loop's callers, 3 and 4 those of the other's, and 5 that of the session by which the other loop takes the
-// channel away that its live fence leaves behind.
-const TOLD_LISTENER: [&str; 6] = [
+// The end of each message, which tells where the object was set.
+const PLACE: &str = r#""object":{"type":"Point","coordinates":[2,1]}}"#;
+
+// What each of them is told, part by part. A live fence tells the number of its link's session: 1 and 2 are those of
+// the first loop's callers, 3 and 4 those of the other's, and 5 that of the session by which the other loop takes the
+// channel away that its live fence left.
+const LISTENER: [&str; 7] = [
     ":1\r\n",
     "+OK\r\n",
     "*3\r\n$9\r\nsubscribe\r\n$1\r\nf\r\n:1\r\n",
     "*3\r\n$7\r\nmessage\r\n$1\r\nf\r\n$110\r\n",
-    r#"{"command":"set","detect":"enter","hook":"f","key":"k","id":"a","object":{"type":"Point","coordinates":[2,1]}}"#,
+    r#"{"command":"set","detect":"enter","hook":"f","key":"k","id":"a","#,
+    PLACE,
     "\r\n",
 ];
 
-const TOLD_READER: [&str; 1] = ["$36\r\n{\"type\":\"Point\",\"coordinates\":[2,1]}\r\n"];
+const READER: [&str; 1] = ["$36\r\n{\"type\":\"Point\",\"coordinates\":[2,1]}\r\n"];
 
-const TOLD_LATE_LISTENER: [&str; 2] = [":1\r\n", "*3\r\n$9\r\nsubscribe\r\n$6\r\nlive/6\r\n:1\r\n"];
+const LATE_LISTENER: [&str; 2] = [":1\r\n", "*3\r\n$9\r\nsubscribe\r\n$6\r\nlive/6\r\n:1\r\n"];
 
-const TOLD_LISTENER_THERE: [&str; 5] = [
+const LISTENER_THERE: [&str; 6] = [
     ":1\r\n",
     "*3\r\n$9\r\nsubscribe\r\n$6\r\nlive/3\r\n:1\r\n",
     "$115\r\n",
-    r#"{"command":"set","detect":"enter","hook":"live/3","key":"k","id":"a","object":{"type":"Point","coordinates":[2,1]}}"#,
+    r#"{"command":"set","detect":"enter","hook":"live/3","key":"k","id":"a","#,
+    PLACE,
     "\r\n",
 ];
 
-const TOLD_SETTER_THERE: [&str; 2] = [
+const SETTER_THERE: [&str; 2] = [
     "$36\r\n{\"type\":\"Point\",\"coordinates\":[4,3]}\r\n",
     "+OK\r\n",
 ];
@@ -86,8 +92,8 @@ fn sink(alloc: Global) -> BytesSink {
     BytesSink::new(alloc, usize::MAX, Vec::new(alloc))
 }
 
-// The first loop's callers: one who listens, one whose request comes with the second look at its link, and one who comes
-// when the door is looked at again.
+// The callers of the first loop. The one who listens is at the end of his link at the third look at it, the request of
+// the one who reads comes with the second look at his link, and the last one comes when the door is named.
 fn first_door(alloc: Global) -> Result<ScriptedDoor, NoMemory> {
     let once = vec![in alloc; Move::Most(usize::MAX), Move::Later]?;
     let second = vec![in alloc; Move::Later]?;
@@ -98,14 +104,15 @@ fn first_door(alloc: Global) -> Result<ScriptedDoor, NoMemory> {
     Ok(door_of(alloc, visits))
 }
 
-// Two waits of the first loop name nobody. The next one names the door and both links, and those behind it all.
+// Two waits of the first loop name nobody; in the second of them the other loop is served, and behind it who listens is
+// looked at once more. The third names the door and both links, and those that follow name all.
 fn first_wait(alloc: Global) -> Result<ScriptedWait, NoMemory> {
     let all = vec![in alloc; Named::Door, Named::Link(1), Named::Link(0)]?;
     let waits = vec![in alloc; Vec::new(alloc), Vec::new(alloc), all]?;
     ScriptedWait::new(alloc, waits)
 }
 
-// The other loop: one of its callers listens, and the other one reads what the first loop set, and sets.
+// The other loop. Each of its waits names all.
 fn other_loop(alloc: Global, seated: Seated<'_>) -> Result<OtherLoop<'_>, NoMemory> {
     let once = vec![in alloc; Move::Most(usize::MAX), Move::Later]?;
     let listens = caller(alloc, &LISTENS_THERE, once)?;
@@ -148,9 +155,9 @@ fn what_one_loop_sets_another_tells_and_reads(rt: HostRuntime) -> Result<(), Fai
     assert_eq!(rt; status, 0);
     assert_eq!(rt; lines.written(), b"listening door\nserved 3\n".as_slice());
     let links = wait.shut_links();
-    assert!(rt; is_told(alloc, links, 0, &TOLD_LISTENER)?);
-    assert!(rt; is_told(alloc, links, 1, &TOLD_READER)?);
-    assert!(rt; is_told(alloc, links, 2, &TOLD_LATE_LISTENER)?);
+    assert!(rt; is_told(alloc, links, 0, &LISTENER)?);
+    assert!(rt; is_told(alloc, links, 1, &READER)?);
+    assert!(rt; is_told(alloc, links, 2, &LATE_LISTENER)?);
     let other = &wait.other;
     assert_eq!(rt; other.status, Some(0));
     assert_eq!(rt;
@@ -158,8 +165,8 @@ fn what_one_loop_sets_another_tells_and_reads(rt: HostRuntime) -> Result<(), Fai
         b"listening door\nserved 2\n".as_slice()
     );
     let links = other.wait.shut_links();
-    assert!(rt; is_told(alloc, links, 0, &TOLD_LISTENER_THERE)?);
-    assert!(rt; is_told(alloc, links, 1, &TOLD_SETTER_THERE)?);
+    assert!(rt; is_told(alloc, links, 0, &LISTENER_THERE)?);
+    assert!(rt; is_told(alloc, links, 1, &SETTER_THERE)?);
     // The seventh number took away the channel of the late listener.
     assert_eq!(rt; first.enter(&rt), Ok(8));
     Ok(())
