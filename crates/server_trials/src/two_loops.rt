@@ -142,6 +142,20 @@ fn is_told(
     Ok(false)
 }
 
+// Whether each caller of the first loop was told what is due.
+fn first_are_told(alloc: Global, links: &[ScriptedLink]) -> Result<bool, NoMemory> {
+    Ok(
+        is_told(alloc, links, 0, &LISTENER)?
+            && is_told(alloc, links, 1, &READER)?
+            && is_told(alloc, links, 2, &LATE_LISTENER)?,
+    )
+}
+
+// Whether each caller of the other loop was.
+fn others_are_told(alloc: Global, links: &[ScriptedLink]) -> Result<bool, NoMemory> {
+    Ok(is_told(alloc, links, 0, &LISTENER_THERE)? && is_told(alloc, links, 1, &SETTER_THERE)?)
+}
+
 #[test]
 fn what_one_loop_sets_another_tells_and_reads(rt: HostRuntime) -> Result<(), Fail> {
     let alloc = rt.alloc();
@@ -154,19 +168,14 @@ fn what_one_loop_sets_another_tells_and_reads(rt: HostRuntime) -> Result<(), Fai
     let status = first.serve(&rt, alloc, &mut lines, &mut door, &mut wait);
     assert_eq!(rt; status, 0);
     assert_eq!(rt; lines.written(), b"listening door\nserved 3\n".as_slice());
-    let links = wait.shut_links();
-    assert!(rt; is_told(alloc, links, 0, &LISTENER)?);
-    assert!(rt; is_told(alloc, links, 1, &READER)?);
-    assert!(rt; is_told(alloc, links, 2, &LATE_LISTENER)?);
+    assert!(rt; first_are_told(alloc, wait.shut_links())?);
     let other = &wait.other;
     assert_eq!(rt; other.status, Some(0));
     assert_eq!(rt;
         other.sink.written(),
         b"listening door\nserved 2\n".as_slice()
     );
-    let links = other.wait.shut_links();
-    assert!(rt; is_told(alloc, links, 0, &LISTENER_THERE)?);
-    assert!(rt; is_told(alloc, links, 1, &SETTER_THERE)?);
+    assert!(rt; others_are_told(alloc, other.wait.shut_links())?);
     // The seventh number took away the channel of the late listener.
     assert_eq!(rt; first.enter(&rt), Ok(8));
     Ok(())
