@@ -1,0 +1,6 @@
+mod Texts
+mod Frames
+mod Answers
+mod Following
+mod Hearing
+mod Worlds

@@ -1,0 +1,3 @@
+pub mod LogTexts
+pub mod Following
+pub mod Deliveries
