@@ -3,7 +3,7 @@
 use crate::samples::{fields, name};
 use crate::tables::{Answers, are_answered, yes_or_no};
 use byte_text::{Name, Text, read_i64};
-use field_filter::{has_value, passes, show_value};
+use object_match::{has_value, passes, show_value};
 use std::alloc::Global;
 use std::test::Fail;
 use world_data::{Fields, Test, Tests, Value, Values};

@@ -5,8 +5,8 @@ ghost use Rattle.byte_text.specs.Globs.{is_sound_glob};
 ghost use Rattle.fence_model.specs.Fences.{in_watch, is_in_fence, meets_fence};
 
 use crate::areas::meets_area;
+use crate::fields::passes;
 use crate::patterns::meets_glob;
-use field_filter::passes;
 use world_data::{Fence, Object, Watch};
 
 /// Whether the object meets the MATCH and the tests of the fence.

@@ -6,8 +6,8 @@ ghost use Rattle.fence_model.specs.Queries.{meets_query, meets_rule};
 ghost use Rattle.world_data.specs.declared.objects.Object.{Object};
 
 use crate::areas::meets_area;
+use crate::fields::passes;
 use crate::patterns::meets_glob;
-use field_filter::passes;
 use planar_geom::Shape;
 use world_data::{Object, Query, Rule};
 

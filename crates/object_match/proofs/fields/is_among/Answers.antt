@@ -1,8 +1,8 @@
 use Rattle.std.proofs.Common.{◌≡◌, true, false, sym, ◌∙◌}
 use Rattle.std.specs.List.{list_any}
 use Rattle.world_data.specs.Filters.{same_value}
-use Rattle.field_filter.proofs.Places.{any_holds, any_goes}
-use Rattle.field_filter.proofs.is_among.Goals as goal
+use Rattle.object_match.proofs.Places.{any_holds, any_goes}
+use Rattle.object_match.proofs.fields.is_among.Goals as goal
 
 pub returns-then-is_same : goal.returns-then-is_same
 returns-then-is_same c =

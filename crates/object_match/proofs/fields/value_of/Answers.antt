@@ -1,8 +1,8 @@
 use Rattle.std.proofs.Common.{◌≡◌, ◌<◌, true, false, length, arith, sym, ◌∙◌}
 use Rattle.byte_text.specs.Names.{same}
 use Rattle.world_data.specs.Filters.{value_of}
-use Rattle.field_filter.proofs.FoundValues.{found, passed}
-use Rattle.field_filter.proofs.value_of.Goals as goal
+use Rattle.object_match.proofs.FoundValues.{found, passed}
+use Rattle.object_match.proofs.fields.value_of.Goals as goal
 
 pub returns-then-is_same : goal.returns-then-is_same
 returns-then-is_same c =

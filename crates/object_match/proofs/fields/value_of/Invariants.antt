@@ -1,6 +1,6 @@
 use Rattle.std.proofs.Common.{◌≡◌, drop}
 use Rattle.world_data.specs.Filters.{value_of}
-use Rattle.field_filter.proofs.value_of.Given as goal
+use Rattle.object_match.proofs.fields.value_of.Given as goal
 
 -- the fields that are left decide
 abbrev pub invariant-loop-i : goal.invariant-loop-i

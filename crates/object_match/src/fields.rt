@@ -1,5 +1,4 @@
 //! Whether the fields of an object pass the tests of a query or a channel, and the value that a field has.
-#![tactic(auto)]
 
 ghost use Rattle.std.specs.Prelude.{◌≡◌, ◌++◌, OnOk, OnErr};
 ghost use Rattle.std.specs.List.{list_any};

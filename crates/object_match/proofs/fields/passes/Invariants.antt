@@ -1,6 +1,6 @@
 use Rattle.std.proofs.Common.{◌≡◌, drop}
 use Rattle.world_data.specs.Filters.{passes}
-use Rattle.field_filter.proofs.passes.Given as goal
+use Rattle.object_match.proofs.fields.passes.Given as goal
 
 -- the tests that are left decide
 abbrev pub invariant-loop-i : goal.invariant-loop-i

@@ -1,7 +1,7 @@
 use Rattle.std.proofs.Common.{◌≡◌, true, false, sym, ◌∙◌}
 use Rattle.world_data.specs.Filters.{passes, passes_one}
-use Rattle.field_filter.proofs.Places.{all_fails, all_goes}
-use Rattle.field_filter.proofs.passes.Goals as goal
+use Rattle.object_match.proofs.Places.{all_fails, all_goes}
+use Rattle.object_match.proofs.fields.passes.Goals as goal
 
 pub returns-then-not-passes_one : goal.returns-then-not-passes_one
 returns-then-not-passes_one c =
