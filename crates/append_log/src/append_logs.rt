@@ -1,10 +1,10 @@
 //! The log on a side of a disk: records are pushed, and a commit makes them stand.
 
 ghost use Rattle.std.specs.Prelude.{Decides, ◌≡◌, ◌+◌, ◌≤◌, ◌<◌, ◌^◌, ◌++◌, ℕ, List, [], length, OnOk, OnErr};
-ghost use Rattle.std.specs.Prelude.{Ok, IfOk, IfErr, MatchResult};
+ghost use Rattle.std.specs.Prelude.{Ok, IfOk, IfErr, MatchResult, take, drop};
 ghost use Rattle.byte_text.specs.Names.{Bytes};
 ghost use Rattle.outside.specs.Causes.{HasCause, Rose};
-ghost use Rattle.log_sides.specs.Texts.{StandsRound, IsHeading, newest, committed, written};
+ghost use Rattle.log_sides.specs.Texts.{StandsRound, IsHeading, newest, committed, front_text, written};
 ghost use Rattle.log_sides.specs.Making.{WhileMade};
 ghost use Rattle.log_sides.specs.States.{ReadsAs, SideLeads, LogOn};
 
@@ -155,6 +155,36 @@ impl AppendLog {
         ensures { result ≡ self.now.gate + length self.now.pending }
     {
         self.gate + self.pending()
+    }
+
+    /// The place of the closed gate of the side in use, behind all that was committed.
+    pub fn gate(&self) -> u64
+        ensures { result ≡ self.now.gate }
+    {
+        self.gate
+    }
+
+    /// Reads what was committed to the side, its header and gates with it, from a place on, as far as there is room, and
+    /// answers how many bytes.
+    pub fn read<D: Disk>(&self, disk: &mut D, from: u64, into: &mut [u8]) -> Result<usize, Failed>
+        requires { from ≤ self.now.gate }
+        ensures bytes { (batches : List Bytes)
+            → LogOn D.crashes D.seen D.images disk.old self.now.side self.now.version self.now.generation self.now.gate
+            batches
+            → IfOk result
+            (λ n. take n into.new
+            ≡ take (length into.old) (drop from (front_text self.now.version self.now.generation batches))) }
+        ensures bound { IfOk result (λ n. n ≤ length into.new) }
+        ensures safe { (bytes : Bytes) → ReadsAs D.crashes D.seen D.images disk.old self.now.side bytes
+            → ReadsAs D.crashes D.seen D.images disk.new self.now.side bytes }
+        ensures same { (bytes : Bytes) → ReadsAs D.crashes D.seen D.images disk.old self.now.side bytes
+            → SideLeads D.crashes D.seen D.images D.moment D.left_since self.now.side
+            (λ x. x ≡ bytes) disk.old disk.new }
+        ensures told { D.crashes disk.new ≡ D.crashes disk.old }
+        ensures cause { HasCause (D.faults disk.old) (D.faults disk.new) result }
+    {
+        let room = into.len().min((self.gate - from) as usize);
+        disk.read(self.side, from, &mut into[..room])
     }
 
     /// The version of the side in use.
