@@ -1,13 +1,13 @@
 //! The steps of a journal on its disk: a commit, its mirror, and those of a rewriting.
 
-ghost use Rattle.std.specs.Prelude.{◌≡◌, ◌+◌, ◌≤◌, ◌<◌, ◌^◌, ℕ, List, [], Option, None, Some, true, is_some, length};
+ghost use Rattle.std.specs.Prelude.{◌≡◌, ◌+◌, ◌≤◌, ◌<◌, ◌^◌, ℕ, List, [], Option, None, Some, true, is_some, length, take, drop};
 ghost use Rattle.std.specs.Prelude.{Ok, OnOk, OnErr, IfOk};
 ghost use Rattle.byte_text.specs.Names.{Bytes};
 ghost use Rattle.outside.specs.Causes.{HasCause};
 ghost use Rattle.outside.specs.Crashes.{LeavesOnly};
 ghost use Rattle.outside.specs.declared.sides.Side.{Side};
 ghost use Rattle.outside.specs.Sides.{other_side};
-ghost use Rattle.log_sides.specs.Texts.{IsHeading, newest, committed, written};
+ghost use Rattle.log_sides.specs.Texts.{IsHeading, newest, committed, front_text, written};
 ghost use Rattle.log_rewrite.specs.declared.rewriters.Rewriter.{Rewriter};
 ghost use Rattle.journal.specs.Logs.{HoldsLog, HoldsEither};
 ghost use Rattle.journal.specs.Keeping.{KeptOn, new_gate, next_generation};
@@ -44,6 +44,36 @@ pub(crate) fn commit_log<D: Disk>(disk: &mut D, log: &mut AppendLog) -> Result<(
     ensures gate { OnOk result (log.new.gate ≤ log.old.gate + length log.old.pending + 9) }
 {
     log.commit(disk)
+}
+
+/// Reads what was committed to the side in use from a place on, as far as there is room.
+pub(crate) fn read_log<D: Disk>(
+    disk: &mut D,
+    log: &AppendLog,
+    from: u64,
+    into: &mut [u8],
+) -> Result<usize, Failed>
+    requires { from ≤ log.now.gate }
+    ensures bytes { (rewriter : Option Rewriter) (batches copied : List Bytes)
+        → KeptOn D.crashes D.seen D.images disk.old log.now.side log.now.version log.now.generation log.now.gate
+        rewriter batches copied
+        → IfOk result
+        (λ n. take n into.new
+        ≡ take (length into.old) (drop from (front_text log.now.version log.now.generation batches))) }
+    ensures bound { IfOk result (λ n. n ≤ length into.new) }
+    ensures kept { (rewriter : Option Rewriter) (batches copied : List Bytes)
+        → KeptOn D.crashes D.seen D.images disk.old log.now.side log.now.version log.now.generation log.now.gate
+        rewriter batches copied
+        → KeptOn D.crashes D.seen D.images disk.new log.now.side log.now.version log.now.generation log.now.gate
+        rewriter batches copied }
+    ensures leaves { (rewriter : Option Rewriter) (batches copied : List Bytes)
+        → KeptOn D.crashes D.seen D.images disk.old log.now.side log.now.version log.now.generation log.now.gate
+        rewriter batches copied → D.crashes disk.old ≡ true
+        → LeavesOnly D.moment D.left_since disk.old disk.new (HoldsLog log.now.version batches) }
+    ensures told { D.crashes disk.new ≡ D.crashes disk.old }
+    ensures cause { HasCause (D.faults disk.old) (D.faults disk.new) result }
+{
+    log.read(disk, from, into)
 }
 
 /// Writes what the last commit wrote to the new side, where there is one.

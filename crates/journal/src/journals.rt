@@ -6,17 +6,17 @@
 //! what its last one did.
 
 ghost use Rattle.std.specs.Prelude.{◌≡◌, ◌+◌, ◌≤◌, ◌<◌, ◌^◌, ◌++◌, ◌⊎◌, ℕ, true, false, List, [], Some, None, is_some};
-ghost use Rattle.std.specs.Prelude.{length, max, Decides, Ok, OnOk, OnErr, IfOk, IfErr};
+ghost use Rattle.std.specs.Prelude.{length, max, take, drop, Decides, Ok, OnOk, OnErr, IfOk, IfErr};
 ghost use Rattle.byte_text.specs.Names.{Bytes};
 ghost use Rattle.outside.specs.Causes.{HasCause, Rose};
 ghost use Rattle.outside.specs.declared.sides.Side.{Side};
 ghost use Rattle.outside.specs.Sides.{Sides};
 ghost use Rattle.outside.specs.Crashes.{LeavesOnly};
-ghost use Rattle.log_sides.specs.Texts.{newest, committed};
+ghost use Rattle.log_sides.specs.Texts.{newest, committed, front_text};
 ghost use Rattle.journal.specs.Logs.{HoldsLog, HoldsEither};
 ghost use Rattle.journal.specs.Keeping.{new_gate, next_generation};
 
-use crate::disk_steps::{begin_beside, commit_log, copy_records, mirror_batch, open_new};
+use crate::disk_steps::{begin_beside, commit_log, copy_records, mirror_batch, open_new, read_log};
 use crate::openings::{BLOCK, OpenFault, Unopened, UsedLog, open_log};
 use crate::pieces::Piece;
 use crate::replays::Replay;
@@ -164,6 +164,44 @@ impl<D: Disk> Journal<D> {
         ensures { result ≡ self.now.log.generation }
     {
         self.log.generation()
+    }
+
+    /// The place of the closed gate of the side in use, behind all that was committed.
+    pub fn gate(&self) -> u64
+        ensures { result ≡ self.now.log.gate }
+    {
+        self.log.gate()
+    }
+
+    /// Reads what was committed to the side in use, its header and gates with it, from a place on, as far as there is
+    /// room, and answers how many bytes. What is pending is not among them.
+    pub fn read(&mut self, from: u64, into: &mut [u8]) -> Result<usize, JournalFault>
+        requires { from ≤ self.old.log.gate }
+        ensures bytes { (batches copied : List Bytes) → Keeps D.crashes D.seen D.images self.old batches copied
+            → IfOk result
+            (λ n. take n into.new
+            ≡ take (length into.old) (drop from (front_text self.old.log.version self.old.log.generation batches))) }
+        ensures bound { IfOk result (λ n. n ≤ length into.new) }
+        ensures kept { (batches copied : List Bytes) → Keeps D.crashes D.seen D.images self.old batches copied
+            → OnOk result (Keeps D.crashes D.seen D.images self.new batches copied) }
+        ensures leaves { (batches copied : List Bytes) → Keeps D.crashes D.seen D.images self.old batches copied
+            → D.crashes self.old.disk ≡ true
+            → LeavesOnly D.moment D.left_since self.old.disk self.new.disk (HoldsLog self.old.log.version batches) }
+        ensures ends { Ends D.faults self.old self.new result }
+        ensures told { D.crashes self.new.disk ≡ D.crashes self.old.disk }
+        ensures log { self.new.log ≡ self.old.log }
+        ensures rewriter { self.new.rewriter ≡ self.old.rewriter }
+    {
+        if self.failed {
+            return Err(JournalFault::Failed);
+        }
+        match read_log(&mut self.disk, &self.log, from, into) {
+            Ok(count) => Ok(count),
+            Err(Failed) => {
+                self.failed = true;
+                Err(JournalFault::Disk)
+            }
+        }
     }
 
     /// Whether so many bytes more may be pushed: the log is of the newest version, and both sides have room for them in
