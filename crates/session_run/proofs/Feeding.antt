@@ -18,7 +18,7 @@ use Rattle.resp_frames.specs.RequestReader.{Held, IsFed, IsNotFed}
 use Rattle.world_model.specs.Outcomes.{is_proper}
 use Rattle.world_model.specs.declared.events.Asked.{Asked}
 use Rattle.world_model.specs.declared.events.Asked.TheVariants.{Words, Broken}
-use Rattle.live_fence.specs.LiveFences.{is_live, pair_of, live_pair}
+use Rattle.live_fence.specs.LiveFences.{is_live, pair_of}
 use Rattle.session_run.specs.Feeds.{asked_by, asked_behind, asked_next, Feeds, Reads, ReadsFault}
 use Rattle.session_run.specs.Live.{pair_asks, becomes, asked_of}
 

@@ -6,6 +6,7 @@
 mod ends;
 mod filling;
 mod live;
+mod parts;
 mod phases;
 mod sessions;
 #[cfg(test)]

@@ -3,11 +3,13 @@
 //! It is read, asked and taken from only where nothing of it is to be written. So it holds at most the rest of one
 //! block, the requests of one turn, and the frames of one take.
 
-ghost use Rattle.std.specs.Prelude.{◌≡◌, ◌≤◌, ◌<◌, ◌++◌, ◌||◌, [], length, take, drop, true, false, None, Decides};
+ghost use Rattle.std.specs.Prelude.{◌≡◌, ◌≤◌, ◌<◌, ◌++◌, ◌∷◌, ◌||◌, [], length, take, drop, true, false, None, Decides};
 ghost use Rattle.std.specs.List.{list_all, list_any};
 ghost use Rattle.std.specs.Io.KnownBytes.{Appends, Keeps};
 ghost use Rattle.byte_text.specs.Names.{Bytes};
 ghost use Rattle.world_model.specs.Outcomes.{IsCount, is_proper, take_outcome};
+ghost use Rattle.world_model.specs.declared.events.Outcome.TheVariants as outcome;
+ghost use Rattle.repl_stream.specs.Texts.{max_part, part_text};
 ghost use Rattle.outside.specs.Links.{GotWithin, SentWithin, Reads, Writes};
 ghost use Rattle.session_run.specs.Live.{sets_channel};
 ghost use Rattle.session_run.specs.Outs.{given_bytes};
@@ -20,9 +22,11 @@ ghost use Rattle.session_run.specs.Filling.{IsFilled, IsFit};
 use crate::ends::InEnd;
 use crate::filling::{fill_from, refill};
 use crate::live::{put_shown, sets_one};
+use crate::parts::put_part;
 use crate::phases::{Asking, TakeEnd, end_of};
 use crate::waiting_bytes::WaitingBytes;
 use outside::{Failed, Got, ReadyLink, Sent};
+use repl_stream::Part;
 use resp_frames::Requests;
 use std::alloc::Global;
 use std::marker::Model;
@@ -302,6 +306,22 @@ impl<K: ReadyLink> Session<K> {
             Taken::Ended => self.taking = Some(TakeEnd::Ended),
             Taken::LogFault => self.taking = Some(TakeEnd::LogFault),
             Taken::Stopped => self.taking = Some(TakeEnd::Stopped),
+        }
+    }
+
+    /// Puts a part of the log with its bytes behind what is to be written, as one frame that a take gave. For want of
+    /// memory it is lost, and the taking ends so.
+    #[tactic(auto, using(crate::proofs::PartShown::part_shown))]
+    pub fn on_part(&mut self, part: &Part, bytes: &[u8])
+        requires ready { WantsTake self.old }
+        requires short { length bytes.now ≤ max_part }
+        ensures takes { Takes self.old self.new (outcome.Given (part_text part.now bytes.now ∷ [])) }
+        ensures owed { UnlessLost self.new.taking
+            (Appends (owed self.old) (owed self.new)
+            (given_bytes self.old.number (outcome.Given (part_text part.now bytes.now ∷ [])))) }
+    {
+        if put_part(self.alloc, &mut self.out, part, bytes).is_err() {
+            self.taking = Some(TakeEnd::Memory);
         }
     }
 

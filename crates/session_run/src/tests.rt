@@ -5,6 +5,7 @@ ghost use Rattle.session_run.specs.Sessions.{WantsTurn};
 
 use crate::{InEnd, Session, TakeEnd};
 use outside::{CallerScript, Move, ScriptedLink};
+use repl_stream::Part;
 use std::alloc::{AllocError, Global};
 use std::test::Fail;
 use world_model::{Answers, Asked, CallOutcome, Frames, Taken};
@@ -305,6 +306,45 @@ fn of_its_live_fence_the_payloads_alone_are_shown(rt: HostRuntime) -> Result<(),
         b"$2\r\n{}\r\n*3\r\n$7\r\nmessage\r\n$6\r\nlive/8\r\n$1\r\na\r\n\
 *4\r\n$8\r\npmessage\r\n$1\r\n*\r\n$6\r\nlive/7\r\n$1\r\nb\r\n$0\r\n\r\n"
             .as_slice()
+    );
+    Ok(())
+}
+
+#[test]
+fn a_part_of_the_log_is_written_as_its_text(rt: HostRuntime) -> Result<(), Fail> {
+    let alloc = rt.alloc();
+    let script = caller(alloc, b"a", b"", &[], &[Move::Most(20), Move::Later])?;
+    let mut session = Session::new(alloc, ScriptedLink::new(alloc, 0, script), 7);
+    let mut block = [0; 4096];
+    if session.wants_to_read() {
+        let _ = session.on_readable(&mut block);
+    }
+    if session.wants_turn() {
+        let asked = session.move_asked();
+        if asked.len() == 1 {
+            let end = CallOutcome::Ok;
+            session.on_answered(asked, Answers { served: 1, end });
+        }
+    }
+    let part = Part {
+        generation: 3,
+        from: 8,
+        end: 4000,
+    };
+    if session.wants_take() {
+        session.on_part(&part, b"ab\r\n");
+    }
+    for _ in 0..3u32 {
+        assert!(rt; !session.wants_take());
+        if session.wants_to_write() {
+            let _ = session.on_writable();
+        }
+    }
+    assert!(rt; session.wants_take());
+    assert_eq!(rt; session.end_of_taking(), None);
+    assert_eq!(rt;
+        session.into_link().written(),
+        b"*5\r\n$4\r\nPART\r\n$1\r\n3\r\n$1\r\n8\r\n$4\r\n4000\r\n$4\r\nab\r\n\r\n".as_slice()
     );
     Ok(())
 }
