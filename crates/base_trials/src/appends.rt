@@ -86,6 +86,29 @@ fn a_fresh_side_and_two_batches(rt: HostRuntime) -> Result<(), Fail> {
     Ok(())
 }
 
+// The bytes in front of the closed gate, from places on.
+#[test]
+fn bytes_in_front_of_the_gate(rt: HostRuntime) -> Result<(), Fail> {
+    let alloc = rt.alloc();
+    let mut disk = disk_failing(alloc, &[])?;
+    let Ok(mut log) = AppendLog::make(alloc, &mut disk, Side::A, 1) else {
+        return Err(Fail::from("no log"));
+    };
+    assert!(rt; put(&mut log, &mut disk, b"xyz"));
+    assert_eq!(rt; log.gate(), 28);
+    let mut bytes = [b'.'; 13];
+    if log.gate() >= 16 {
+        assert_eq!(rt; log.read(&mut disk, 16, &mut bytes), Ok(12));
+    }
+    assert_eq!(rt; bytes.as_slice(), b"\x01\0\0\0\0\0\0\0\x03xyz.".as_slice());
+    let mut few = [b'.'; 2];
+    if log.gate() >= 25 {
+        assert_eq!(rt; log.read(&mut disk, 25, &mut few), Ok(2));
+    }
+    assert_eq!(rt; few.as_slice(), b"xy".as_slice());
+    Ok(())
+}
+
 // Commits a batch.
 fn put(log: &mut AppendLog, disk: &mut MemoryDisk, batch: &[u8]) -> bool {
     log.version() == NEWEST

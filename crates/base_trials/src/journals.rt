@@ -100,6 +100,35 @@ fn finishes(journal: &mut Journal<MemoryDisk>) -> bool {
     journal.finish().is_ok()
 }
 
+// The bytes of the committed batches from a place on.
+fn reads(journal: &mut Journal<MemoryDisk>, from: u64, into: &mut [u8]) -> i64 {
+    if from > journal.gate() {
+        return -1;
+    }
+    match journal.read(from, into) {
+        Ok(count) => i64::try_from(count).unwrap_or(-2),
+        Err(JournalFault::Disk) => -3,
+        Err(JournalFault::Failed) => -4,
+    }
+}
+
+#[test]
+fn bytes_of_the_committed_batches(rt: HostRuntime) -> Result<(), Fail> {
+    let alloc = rt.alloc();
+    let disk = disk_failing(alloc, b"", b"", &[])?;
+    let (Ok(mut journal), _) = open(alloc, disk) else {
+        return Err(Fail::from("not opened"));
+    };
+    assert!(rt; write(&mut journal, b"xyz"));
+    assert_eq!(rt; journal.gate(), 28);
+    let mut bytes = [b'.'; 13];
+    assert_eq!(rt; reads(&mut journal, 16, &mut bytes), 12);
+    assert_eq!(rt; bytes.as_slice(), b"\x01\0\0\0\0\0\0\0\x03xyz.".as_slice());
+    assert_eq!(rt; reads(&mut journal, 28, &mut bytes), 0);
+    assert_eq!(rt; reads(&mut journal, 29, &mut bytes), -1);
+    Ok(())
+}
+
 // Three writes, with a whole rewriting round the second. Answers how many were acknowledged.
 fn script(journal: &mut Journal<MemoryDisk>, piece: &Piece) -> i64 {
     if !write(journal, b"a") {

@@ -3,6 +3,7 @@ mod Taking
 mod Stepping
 mod NextSteps
 mod Sides
+mod Reading
 mod Committing
 mod Going
 mod Opening

@@ -100,6 +100,16 @@ module _ {D : Type 0} (crashes : D → Bool) (seen : D → Option Sides) (images
             (subst (λ (r : Rewriting). IsCopyWhile r v (committed kept.copied next.piece.records) kept.batches) (sym going) (piece_copied from next v kept.copied kept.batches piece copies));
       }
 
+  -- what was committed is read
+  pub read_on : {E : Type 0} → new.journal.log.version ≡ v → ((batches copied : List Bytes) → Keeps crashes seen images old.journal batches copied → Keeps crashes seen images new.journal batches copied) → LeavesLog
+      → pending old.journal ≡ [] → pending new.journal ≡ [] → new.rewriting ≡ old.rewriting → LeadsTo {E = E} crashes seen images moment left_since old new (Ok tt) j j
+  read_on version keeps left none still same = record {
+    same = refl;
+    leaves = λ told. held (left kept.batches kept.copied kept.keeps told);
+    kept = keeps_on v kept.batches kept.copied version (keeps kept.batches kept.copied kept.keeps) kept.whole kept.committed kept.recorded none still
+        (subst (λ (r : Rewriting). IsCopyWhile r v kept.copied kept.batches) (sym same) kept.copies);
+  }
+
   -- a step that the disk failed
   pub faulted_on : {E : Type 0} (fault : E) → LeavesLog → LeadsTo crashes seen images moment left_since old new (Err fault) j j
   faulted_on fault left = record { same = refl; leaves = λ told. held (left kept.batches kept.copied kept.keeps told); kept = tt }

@@ -1,6 +1,5 @@
 -- What the calls of a core do to a rewriting, as their clauses say it.
 use Rattle.std.proofs.Common.{◌≡◌, ◌≢◌, ◌∙◌, ℕ, false, sym, ap, true≢false}
-use Rattle.world_model.specs.Halls.{Hall}
 use Rattle.world_model.specs.Histories.{is_log_fault}
 use Rattle.world_model.specs.declared.events.CallOutcome.{CallOutcome}
 use Rattle.world_model.specs.declared.events.CallOutcome.TheVariants as called

@@ -7,6 +7,7 @@ pub mod Written
 pub mod Kept
 pub mod Logged
 pub mod Opened
+pub mod Parts
 pub mod Histories
 pub mod HistoryLaws
 pub mod StepLaws

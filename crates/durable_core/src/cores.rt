@@ -21,10 +21,13 @@ ghost use Rattle.durable_core.specs.Rewriting.{is_ending, is_idle, next_shown, r
 ghost use Rattle.durable_core.specs.Words.{is_served_rewriting};
 ghost use Rattle.tile_core.specs.Answered.{MayCall, IsAnswered, AreSessions, StayNamed};
 ghost use Rattle.object_plans.specs.Kept.{most_kept};
+ghost use Rattle.repl_stream.specs.Feeds.{IfGiven, bytes_in, called_of};
+ghost use Rattle.durable_core.specs.Parts.{IsPartOfLog, IsPartOfWorld};
 
 use crate::rewritings::asks_rewriting;
 use crate::tails::Tail;
 use outside::{Disk, Failed};
+use repl_stream::{Ask, PartAnswer, PartBytes};
 use std::alloc::Global;
 use tile_core::{Ample, Core, Growths};
 use world_model::{Asked, CallOutcome, ChangedSessions, EnterFault, Frames, Taken};
@@ -415,6 +418,52 @@ impl<D: Disk> DurableCore<D> {
                 CallOutcome::LogFault
             }
             called => called,
+        }
+    }
+
+    /// A step of rewriting, and behind it the answer to an ask out of the log, which has all that the hall was asked. A
+    /// failed read stops the hall as a failed step does. For want of memory nothing is read.
+    pub fn log_part(&mut self, ask: Ask, into: &mut PartBytes) -> PartAnswer
+        ensures step { Step (hall_of self.old) event.Rewrite (outcome.Answered (called_of result)) (hall_of self.new) }
+        ensures logged { (hall_of self.new).logged ≡ (hall_of self.old).logged }
+        ensures part { (s : Sided) → KeepsSided D.crashes D.seen D.images self.old.tail.journal s
+            → IfGiven result
+            (λ part. IsPartOfLog ask (generation_of self.new)
+            (sided_next self.old.tail.rewriting (hall_of self.old).world
+            (sided_with (pending self.old.tail.journal) s)).batches
+            part (bytes_in into.new)) }
+        ensures world { (j : Log) → KeepsLogOf D.crashes D.seen D.images self.old j
+            → IfGiven result
+            (λ part. IsPartOfWorld ask (generation_of self.new) (hall_of self.new).world part (bytes_in into.new)) }
+        ensures written { (s : Sided) → KeepsSided D.crashes D.seen D.images self.old.tail.journal s
+            → called_of result ≡ CallOutcome.Ok
+            → KeepsSided D.crashes D.seen D.images self.new.tail.journal
+            (sided_next self.old.tail.rewriting (hall_of self.old).world
+            (sided_with (pending self.old.tail.journal) s)) }
+        ensures writes { called_of result ≢ CallOutcome.LogFault
+            → writing_of self.new
+            ≡ written (hall_of self.old) event.Rewrite (outcome.Answered (called_of result)) (writing_of self.old) }
+        ensures cause { called_of result ≡ CallOutcome.LogFault
+            → Rose (D.faults (disk_of self.old)) (D.faults (disk_of self.new)) }
+        ensures later { D.faults (disk_of self.old) ≤ D.faults (disk_of self.new) }
+        ensures told { D.crashes (disk_of self.new) ≡ D.crashes (disk_of self.old) }
+        ensures log { (j : Log) → KeepsLogOf D.crashes D.seen D.images self.old j
+            → GoesOn D.crashes D.seen D.images D.moment D.left_since self.old self.new event.Rewrite
+            (outcome.Answered (called_of result)) j }
+    {
+        if self.is_stopped() {
+            return PartAnswer::Stopped;
+        }
+        // Followers read the newest version alone. No core is opened over a log of another one.
+        if !self.tail.is_latest() {
+            return PartAnswer::Memory;
+        }
+        match self.tail.part(self.alloc, &self.core, ask, into) {
+            PartAnswer::LogFault => {
+                self.stopped = true;
+                PartAnswer::LogFault
+            }
+            answer => answer,
         }
     }
 

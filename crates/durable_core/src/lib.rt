@@ -3,6 +3,7 @@
 
 mod cores;
 mod openings;
+mod parts;
 mod pieces;
 mod rewritings;
 mod steps;

@@ -49,6 +49,7 @@ impl<D: Disk> Tail<D> {
         ensures rewriting { OnOk result (self.new.rewriting ≡ rewriting.Going last.Nothing) }
         ensures version { self.new.journal.log.version ≡ self.old.journal.log.version }
         ensures generation { self.new.journal.log.generation ≡ self.old.journal.log.generation }
+        ensures pending { OnOk result (pending self.new.journal ≡ []) }
         ensures works { OnOk result (self.new.journal.failed ≡ false) }
         ensures failed { OnErr result (self.new.journal.failed ≡ true) }
         ensures cause { HasCause (D.faults self.old.journal.disk) (D.faults self.new.journal.disk) result }
@@ -79,6 +80,7 @@ impl<D: Disk> Tail<D> {
         ensures rewriting { OnOk result (self.new.rewriting ≡ rewriting.Going next.last) }
         ensures version { self.new.journal.log.version ≡ self.old.journal.log.version }
         ensures generation { self.new.journal.log.generation ≡ self.old.journal.log.generation }
+        ensures pending { OnOk result (pending self.new.journal ≡ []) }
         ensures works { OnOk result (self.new.journal.failed ≡ false) }
         ensures failed { OnErr result (self.new.journal.failed ≡ true) }
         ensures cause { HasCause (D.faults self.old.journal.disk) (D.faults self.new.journal.disk) result }
@@ -109,6 +111,7 @@ impl<D: Disk> Tail<D> {
         ensures rewriting { OnOk result (self.new.rewriting ≡ rewriting.Idle) }
         ensures version { OnOk result (self.new.journal.log.version ≡ newest) }
         ensures generation { OnOk result (self.new.journal.log.generation ≡ self.old.journal.log.generation + 1) }
+        ensures pending { OnOk result (pending self.new.journal ≡ []) }
         ensures works { OnOk result (self.new.journal.failed ≡ false) }
         ensures failed { OnErr result (self.new.journal.failed ≡ true) }
         ensures cause { HasCause (D.faults self.old.journal.disk) (D.faults self.new.journal.disk) result }
@@ -165,6 +168,7 @@ impl<D: Disk> Tail<D> {
         ensures generation { (w : World) → IsNextStep self.old.rewriting (new_gate self.old.journal.rewriter) w step
             → OnOk result
             (self.new.journal.log.generation ≡ next_generation self.old.rewriting w self.old.journal.log.generation) }
+        ensures pending { OnOk result (pending self.new.journal ≡ []) }
         ensures works { OnOk result (self.new.journal.failed ≡ false) }
         ensures failed { OnErr result (self.new.journal.failed ≡ true) }
         ensures cause { HasCause (D.faults self.old.journal.disk) (D.faults self.new.journal.disk) result }
@@ -205,6 +209,7 @@ impl<D: Disk> Tail<D> {
             → (self.new.rewriting ≡ self.old.rewriting)
             × (self.new.journal.log.generation ≡ self.old.journal.log.generation) }
         ensures ended { IsEnded result }
+        ensures pending { result ≡ CallOutcome.Ok → pending self.new.journal ≡ [] }
         ensures works { result ≢ CallOutcome.LogFault → self.new.journal.failed ≡ false }
         ensures cause { result ≡ CallOutcome.LogFault
             → Rose (D.faults self.old.journal.disk) (D.faults self.new.journal.disk) }

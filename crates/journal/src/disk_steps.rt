@@ -47,7 +47,7 @@ pub(crate) fn commit_log<D: Disk>(disk: &mut D, log: &mut AppendLog) -> Result<(
 }
 
 /// Reads what was committed to the side in use from a place on, as far as there is room.
-pub(crate) fn read_log<D: Disk>(
+pub(crate) fn read_front<D: Disk>(
     disk: &mut D,
     log: &AppendLog,
     from: u64,

@@ -16,7 +16,9 @@ ghost use Rattle.log_sides.specs.Texts.{newest, committed, front_text};
 ghost use Rattle.journal.specs.Logs.{HoldsLog, HoldsEither};
 ghost use Rattle.journal.specs.Keeping.{new_gate, next_generation};
 
-use crate::disk_steps::{begin_beside, commit_log, copy_records, mirror_batch, open_new, read_log};
+use crate::disk_steps::{
+    begin_beside, commit_log, copy_records, mirror_batch, open_new, read_front,
+};
 use crate::openings::{BLOCK, OpenFault, Unopened, UsedLog, open_log};
 use crate::pieces::Piece;
 use crate::replays::Replay;
@@ -195,7 +197,7 @@ impl<D: Disk> Journal<D> {
         if self.failed {
             return Err(JournalFault::Failed);
         }
-        match read_log(&mut self.disk, &self.log, from, into) {
+        match read_front(&mut self.disk, &self.log, from, into) {
             Ok(count) => Ok(count),
             Err(Failed) => {
                 self.failed = true;

@@ -7,7 +7,7 @@ use Rattle.journal.specs.Logs.{HoldsLog}
 use Rattle.journal.specs.Standing.{holds}
 use Rattle.journal.specs.KeptLaws.{beside_holds}
 use Rattle.journal.proofs.Steps.{beside_stays, leaves_used}
-use Rattle.journal.proofs.disk_steps.read_log.Goals as goal
+use Rattle.journal.proofs.disk_steps.read_front.Goals as goal
 
 pub returns-clause-bytes : goal.returns-clause-bytes
 returns-clause-bytes g c rewriter batches copied kept = c.read.ensures.bytes batches kept.log
