@@ -5,7 +5,7 @@ use Rattle.serve_run.specs.declared.terms.Terms.{Terms}
 use Rattle.serve_run.specs.Follows.{tending_behind, tending_from, AllFollow}
 use Rattle.serve_run.specs.Pacing.{untended}
 use Rattle.serve_run.specs.SessionSteps.{AreOf}
-use Rattle.serve_run.specs.Steps.{Step, Tended, Wanting, Shrunk, Unshrunk, Joined, Called, Took, Closed, Removed, Unfenced, Unended, Unasked}
+use Rattle.serve_run.specs.Steps.{Step, Tended, Wanting, Shrunk, Unshrunk, Joined, Called, Fed, Took, Closed, Removed, Unfenced, Unended, Unasked}
 
 from_more : (t : Tending) (a b : List Step) → tending_from t (a ++ b) ≡ tending_from (tending_from t a) b
 from_more t [] b = refl
@@ -24,6 +24,7 @@ own_tends n t (Shrunk k m c ∷ steps) own = absurd own.0
 own_tends n t (Unshrunk o ∷ steps) own = absurd own.0
 own_tends n t (Joined caller o ∷ steps) own = absurd own.0
 own_tends n t (Called k m asked served end ∷ steps) own = own_tends n t steps own.1
+own_tends n t (Fed k m ask answer bytes ∷ steps) own = own_tends n t steps own.1
 own_tends n t (Took k o ∷ steps) own = own_tends n t steps own.1
 own_tends n t (Closed k ∷ steps) own = own_tends n t steps own.1
 own_tends n t (Removed k ∷ steps) own = own_tends n t steps own.1
@@ -39,6 +40,7 @@ own_follow n terms t (Shrunk k m c ∷ steps) own = absurd own.0
 own_follow n terms t (Unshrunk o ∷ steps) own = absurd own.0
 own_follow n terms t (Joined caller o ∷ steps) own = absurd own.0
 own_follow n terms t (Called k m asked served end ∷ steps) own = (tt, own_follow n terms t steps own.1)
+own_follow n terms t (Fed k m ask answer bytes ∷ steps) own = (tt, own_follow n terms t steps own.1)
 own_follow n terms t (Took k o ∷ steps) own = (tt, own_follow n terms t steps own.1)
 own_follow n terms t (Closed k ∷ steps) own = (tt, own_follow n terms t steps own.1)
 own_follow n terms t (Removed k ∷ steps) own = (tt, own_follow n terms t steps own.1)

@@ -24,6 +24,7 @@ use Rattle.serve_run.specs.Steps.{Step, IsAmong, Joined, Removed, steps_acts, ca
 use Rattle.serve_run.specs.Runs.{LinkRun, LinkFate, TurnedOut, Starved, Unwatched, Served, IsRefusal, IsUnserved, fate_outcome, IsRun, AreRuns, WatchFault, MayEnd, EndCause, FateCause, IsRemoved, one_if, times, times_shut, is_through, starved_in, starved_of, told_of}
 use Rattle.serve_run.specs.declared.tendings.Tending.{Tending}
 use Rattle.serve_run.specs.declared.terms.Terms.{Terms}
+use Rattle.serve_run.specs.Feeds.{Feed, AreFed}
 use Rattle.serve_run.specs.Follows.{tending_from, AllFollow}
 use Rattle.serve_run.specs.Loops.{Around}
 use Rattle.serve_run.specs.LoopStates.{loop_state, IsOpen, IsGone, AreGone, Holds, NeverJoined, times_open}
@@ -35,7 +36,7 @@ use Rattle.serve_run.proofs.Places.{push_none, set_some, times_set, times_last}
 use Rattle.serve_run.proofs.Fencing.{fences_quiet}
 use Rattle.serve_run.proofs.Records.{Spares, spared_calls, spared_takes, callers_more, among_behind, joined_other, never_before, open_on, runs_on, runs_push, gone_push, shut_times, caller_times, starved_push, faults_on, faults_push, cause_on, causes_on, causes_push, removed_on, removed_push, among_second, through_push, shut_on, told_by, numbered_next, behind_next}
 use Rattle.serve_run.proofs.Shutting.{shut_told, shut_untold, shut_faults, shut_over_same}
-use Rattle.serve_run.proofs.Stepping.{timely_more, gains_steps}
+use Rattle.serve_run.proofs.Stepping.{timely_more, fed_more, fed_on, fed_one, gains_steps}
 
 -- the places of a table are as before, but for one more with nobody
 placed_less : (old new : List (Option SessionState)) → HasPlace old new → (j : ℕ) → (z : SessionState) → slice_get new j ≡ Some (Some z) → slice_get old j ≡ Some (Some z)
@@ -46,8 +47,8 @@ placed_times : (old new : List (Option SessionState)) → HasPlace old new → (
 placed_times old new (inl same) c = ap (times_open c) same
 placed_times old new (inr more) c = let t = times_last c old None in ap (times_open c) more ∙ omega (arith, t)
 
-module _ (told : Option ℕ) (terms : Terms) (old : Around) (t : Tending) (d : DoorState) (w : WaitState) (k : Knows) (places : List (Option SessionState)) (joined starved : ℕ) (is_over : Bool)
-    (came : LinkState) (is_new : IsNew d.links came) (h : Holds told terms old t (loop_state k d w places joined starved is_over true)) where
+module _ (told : Option ℕ) (terms : Terms) (old : Around) (t : Tending) (feeds : List Feed) (d : DoorState) (w : WaitState) (k : Knows) (places : List (Option SessionState)) (joined starved : ℕ) (is_over : Bool)
+    (came : LinkState) (is_new : IsNew d.links came) (h : Holds told terms old t feeds (loop_state k d w places joined starved is_over true)) where
   newly : IsNew came.caller came
   newly = record { caller_is = refl; unwritten = is_new.unwritten; unfailed = is_new.unfailed }
 
@@ -73,7 +74,7 @@ module _ (told : Option ℕ) (terms : Terms) (old : Around) (t : Tending) (d : D
 
   -- no session was seated for the caller: its link was shut
   module _ (k' : Knows) (w1 w' : WaitState) (places' : List (Option SessionState)) (b : Bool) (fate : LinkFate) (more : List Step) (owner : ℕ → Option ℕ)
-      (gains : Gains k k' (steps_acts more)) (timely : AreTimely told more) (untold : tending_from t more ≡ t) (may : AllFollow terms t more) (one : callers_of more ≡ came.caller ∷ []) (spares : (n : ℕ) → Spares more n)
+      (gains : Gains k k' (steps_acts more)) (fed : AreFed [] k k' more) (timely : AreTimely told more) (untold : tending_from t more ≡ t) (may : AllFollow terms t more) (one : callers_of more ≡ came.caller ∷ []) (spares : (n : ℕ) → Spares more n)
       (quiet : (n : ℕ) → ends_fence n more ≡ false)
       (run_is : IsRun told (h.steps ++ more) (record { came = came; went = came; fate = fate; is_told = b }))
       (still : (j : ℕ) → (z : SessionState) → slice_get places j ≡ Some (Some z) → owner z.number ≡ h.owner z.number)
@@ -114,11 +115,12 @@ module _ (told : Option ℕ) (terms : Terms) (old : Around) (t : Tending) (d : D
         (λ is. shut_told w1 w' b came shuts is ∙ ap (option_map (λ (links : List LinkState). links ++ came ∷ [])) waits)
         (λ is. shut_untold w1 w' b came shuts is ∙ waits)
 
-    pub turned_away : Holds told terms old t (loop_state k' (record d { links = next_count d.links }) w' places' (joined + 1) (starved + starved_in fate) is_over b)
+    pub turned_away : Holds told terms old t feeds (loop_state k' (record d { links = next_count d.links }) w' places' (joined + 1) (starved + starved_in fate) is_over b)
     turned_away = record {
       steps = h.steps ++ more;
       gains = gains_steps old.knows k k' h.steps more h.gains gains;
       timely = timely_more told h.steps more h.timely timely;
+      fed = fed_on feeds old.knows k k' h.steps more h.fed fed;
       tends = tends_on t t h.steps more h.tends untold;
       follow = follow_on terms t h.steps more h.tends h.follow may;
       callers = all_callers more one;
@@ -151,11 +153,12 @@ module _ (told : Option ℕ) (terms : Terms) (old : Around) (t : Tending) (d : D
 
   -- the Enter was refused
   pub turned_out : (k' : Knows) (w' : WaitState) (b : Bool) (o : Outcome) → IsRefusal o → Adds event.Enter o k k' → ShutBy w w' b came
-      → Holds told terms old t (loop_state k' (record d { links = next_count d.links }) w' places (joined + 1) starved is_over b)
+      → Holds told terms old t feeds (loop_state k' (record d { links = next_count d.links }) w' places (joined + 1) starved is_over b)
   turned_out k' w' b o is adds shuts =
-      subst (λ (n : ℕ). Holds told terms old t (loop_state k' (record d { links = next_count d.links }) w' places (joined + 1) n is_over b)) (same starved)
+      subst (λ (n : ℕ). Holds told terms old t feeds (loop_state k' (record d { links = next_count d.links }) w' places (joined + 1) n is_over b)) (same starved)
       (turned_away k' w w' places b (TurnedOut o) (Joined came.caller o ∷ []) h.owner
-      (gains_one k k' (event.Enter, o) (made event.Enter o k k' adds)) (tt, tt) refl (tt, tt) refl (λ n. (refl, refl)) (λ n. refl)
+      (gains_one k k' (event.Enter, o) (made event.Enter o k k' adds))
+      (fed_one k k' (Joined came.caller o) refl (gains_one k k' (event.Enter, o) (made event.Enter o k k' adds))) (tt, tt) refl (tt, tt) refl (λ n. (refl, refl)) (λ n. refl)
       (record { is_new = newly; joined = among_behind (Joined came.caller o) h.steps []; fate = (is, refl) })
       (λ j z there. refl) h.gone tt (inl refl) refl refl (omega arith) shuts tt tt tt refl)
     where
@@ -175,6 +178,11 @@ module _ (told : Option ℕ) (terms : Terms) (old : Around) (t : Tending) (d : D
         (gains_one k k1 (event.Enter, outcome.Entered n) (made event.Enter (outcome.Entered n) k k1 adds))
         (gains_one k1 k2 (event.Remove n, outcome.Done) (made (event.Remove n) outcome.Done k1 k2 removed))
 
+    removed_fed : (k2 : Knows) → Adds (event.Remove n) outcome.Done k1 k2 → AreFed [] k k2 (Joined came.caller (outcome.Entered n) ∷ Removed n ∷ [])
+    removed_fed k2 removed = fed_more [] [] k k1 k2 (Joined came.caller (outcome.Entered n) ∷ []) (Removed n ∷ [])
+        (fed_one k k1 (Joined came.caller (outcome.Entered n)) refl (gains_one k k1 (event.Enter, outcome.Entered n) (made event.Enter (outcome.Entered n) k k1 adds)))
+        (fed_one k1 k2 (Removed n) refl (gains_one k1 k2 (event.Remove n, outcome.Done) (made (event.Remove n) outcome.Done k1 k2 removed)))
+
     unserved : (more : List Step) → ((m : ℕ) → Spares more m) → IsUnserved (h.steps ++ more) came came n
     unserved more spares =
         let u = h.unused n never in
@@ -187,10 +195,10 @@ module _ (told : Option ℕ) (terms : Terms) (old : Around) (t : Tending) (d : D
     -- and removed again for want of memory
     pub turned_starved : (k2 : Knows) (w' : WaitState) (places' : List (Option SessionState)) (b : Bool) → Adds (event.Remove n) outcome.Done k1 k2
         → HasPlace places places' → ShutBy w w' b came
-        → Holds told terms old t (loop_state k2 (record d { links = next_count d.links }) w' places' (joined + 1) (starved + 1) is_over b)
+        → Holds told terms old t feeds (loop_state k2 (record d { links = next_count d.links }) w' places' (joined + 1) (starved + 1) is_over b)
     turned_starved k2 w' places' b removed placed shuts =
         let more : List Step = Joined came.caller (outcome.Entered n) ∷ Removed n ∷ [] in
-        turned_away k2 w w' places' b (Starved n) more (reassign h.owner n None) (removed_gains k2 removed) (tt, (tt, tt)) refl (tt, (tt, tt)) refl (λ m. (refl, refl)) (λ m. refl)
+        turned_away k2 w w' places' b (Starved n) more (reassign h.owner n None) (removed_gains k2 removed) (removed_fed k2 removed) (tt, (tt, tt)) refl (tt, (tt, tt)) refl (λ m. (refl, refl)) (λ m. refl)
         (record { is_new = newly; joined = among_behind (Joined came.caller (outcome.Entered n)) h.steps (Removed n ∷ []); fate = unserved more (λ m. (refl, refl)) })
         (λ j z is. owner_other h.owner n None z.number (not_open j z is)) (all_gone_none h.owner n h.runs h.gone) (owner_at h.owner n None) placed refl refl (omega arith)
         shuts tt tt (among_second (Joined came.caller (outcome.Entered n)) (Removed n) h.steps) refl
@@ -198,14 +206,14 @@ module _ (told : Option ℕ) (terms : Terms) (old : Around) (t : Tending) (d : D
     -- or because its link could not be watched
     pub turned_unwatched : (k2 : Knows) (w1 w' : WaitState) (places' : List (Option SessionState)) (b : Bool) → Adds (event.Remove n) outcome.Done k1 k2
         → HasPlace places places' → Rose w.faults w1.faults → w.faults ≤ w1.faults → w1 ≡ record w { faults = w1.faults } → ShutBy w1 w' b came
-        → Holds told terms old t (loop_state k2 (record d { links = next_count d.links }) w' places' (joined + 1) starved is_over b)
+        → Holds told terms old t feeds (loop_state k2 (record d { links = next_count d.links }) w' places' (joined + 1) starved is_over b)
     turned_unwatched k2 w1 w' places' b removed placed rose later same shuts =
         let more : List Step = Joined came.caller (outcome.Entered n) ∷ Removed n ∷ [] in
         let before : old.wait.faults ≤ w.faults = h.wait_later in
         let f = shut_faults w1 w' b came shuts in
         let cause : Rose old.wait.faults w'.faults = omega (arith, rose, before, f) in
-        subst (λ (m : ℕ). Holds told terms old t (loop_state k2 (record d { links = next_count d.links }) w' places' (joined + 1) m is_over b)) (none starved)
-        (turned_away k2 w1 w' places' b (Unwatched n) more (reassign h.owner n None) (removed_gains k2 removed) (tt, (tt, tt)) refl (tt, (tt, tt)) refl (λ m. (refl, refl)) (λ m. refl)
+        subst (λ (m : ℕ). Holds told terms old t feeds (loop_state k2 (record d { links = next_count d.links }) w' places' (joined + 1) m is_over b)) (none starved)
+        (turned_away k2 w1 w' places' b (Unwatched n) more (reassign h.owner n None) (removed_gains k2 removed) (removed_fed k2 removed) (tt, (tt, tt)) refl (tt, (tt, tt)) refl (λ m. (refl, refl)) (λ m. refl)
         (record { is_new = newly; joined = among_behind (Joined came.caller (outcome.Entered n)) h.steps (Removed n ∷ []); fate = unserved more (λ m. (refl, refl)) })
         (λ j z is. owner_other h.owner n None z.number (not_open j z is)) (all_gone_none h.owner n h.runs h.gone) (owner_at h.owner n None) placed
         (ap (λ (x : WaitState). x.shut) same) (ap (λ (x : WaitState). x.over) same) later shuts cause tt
@@ -287,12 +295,14 @@ module _ (told : Option ℕ) (terms : Terms) (old : Around) (t : Tending) (d : D
       runs_other [] are gone = tt
       runs_other (run ∷ runs) are gone = (run_other run are.0 gone.0, runs_other runs are.1 gone.1)
 
-      pub seated : Holds told terms old t (loop_state k1 (record d { links = next_count d.links }) w' (slice_set mid i (Some x)) (joined + 1) starved is_over true)
-      seated = subst (λ (v : WaitState). Holds told terms old t (loop_state k1 (record d { links = next_count d.links }) v (slice_set mid i (Some x)) (joined + 1) starved is_over true)) (sym same)
+      pub seated : Holds told terms old t feeds (loop_state k1 (record d { links = next_count d.links }) w' (slice_set mid i (Some x)) (joined + 1) starved is_over true)
+      seated = subst (λ (v : WaitState). Holds told terms old t feeds (loop_state k1 (record d { links = next_count d.links }) v (slice_set mid i (Some x)) (joined + 1) starved is_over true)) (sym same)
           (record {
             steps = h.steps ++ step;
             gains = gains_steps old.knows k k1 h.steps step h.gains (gains_one k k1 (event.Enter, outcome.Entered n) (made event.Enter (outcome.Entered n) k k1 adds));
             timely = timely_more told h.steps step h.timely (tt, tt);
+            fed = fed_on feeds old.knows k k1 h.steps step h.fed (fed_one k k1 (Joined came.caller (outcome.Entered n)) refl
+                (gains_one k k1 (event.Enter, outcome.Entered n) (made event.Enter (outcome.Entered n) k k1 adds)));
             tends = tends_on t t h.steps step h.tends refl;
             follow = follow_on terms t h.steps step h.tends h.follow (tt, tt);
             callers = all_callers step refl;

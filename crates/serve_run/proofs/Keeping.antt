@@ -1,7 +1,7 @@
 -- What the steps of a loop keep of its record.
-use Rattle.std.proofs.Common.{◌≡◌, ◌⊎◌, ◌+◌, ◌==◌, ℕ, Bool, true, false, List, [], ◌∷◌, ◌++◌, refl, sym, ap, ◌∙◌, subst, inl, inr, arith}
+use Rattle.std.proofs.Common.{◌≡◌, ◌⊎◌, ◌+◌, ◌==◌, ℕ, Bool, true, false, List, [], ◌∷◌, ◌++◌, refl, sym, ap, ◌∙◌, subst, inl, inr, arith, append_assoc}
 use Rattle.std.specs.Prelude.{Option, Some, None, Ok, Err, IfSome, ◌||◌, slice_set}
-use Rattle.std.specs.List.{slice_get}
+use Rattle.std.specs.List.{slice_get, AllByRecursion}
 use Rattle.std.proofs.lemmas.List.{append-nil}
 use Rattle.world_model.specs.declared.events.LogState.{LogState}
 use Rattle.world_model.specs.declared.events.Outcome.{Outcome}
@@ -14,6 +14,7 @@ use Rattle.session_run.specs.Gains.{Gains}
 use Rattle.session_run.specs.Live.{has_set}
 use Rattle.session_run.specs.Sessions.{SessionState, end_of_asking}
 use Rattle.session_run.specs.SoFar.{AskedSoFar, WrittenSoFar}
+use Rattle.serve_run.specs.Feeds.{Feed, feeds_at, AreFed}
 use Rattle.serve_run.specs.Follows.{tending_behind, MayFollow}
 use Rattle.serve_run.specs.Pacing.{tended, wanted, HasGrown, HasWanted}
 use Rattle.serve_run.specs.Steps.{Step, Tended, Wanting, Shrunk, Unshrunk, Joined, step_acts, calls_of, takes_of, callers_of, ends_fence, IsTimely, IsAmong}
@@ -25,13 +26,13 @@ use Rattle.serve_run.specs.Tends.{IsTold, Tends, Asks, Shrinks, ShrinksOn, broke
 use Rattle.serve_run.specs.LoopEnds.{TendsTable, KeepsAside}
 use Rattle.serve_run.specs.declared.terms.Terms.{Terms}
 use Rattle.serve_run.specs.Loops.{Around}
-use Rattle.serve_run.specs.SessionSteps.{StepsSession, StepsOn, EndsEarly}
-use Rattle.serve_run.specs.LoopStates.{LoopState, loop_state, IsOpen, Holds, Keeps, KeepsTable, KeepsEarly, NeverJoined, time_at, times_open}
+use Rattle.serve_run.specs.SessionSteps.{StepsSession, StepsOn, FeedsOn, EndsEarly}
+use Rattle.serve_run.specs.LoopStates.{LoopState, loop_state, IsOpen, Holds, Keeps, KeepsTable, FeedsTable, KeepsEarly, NeverJoined, time_at, times_open}
 use Rattle.serve_run.proofs.Fencing.{ends_second, sets_more, fences_on, fences_quiet}
 use Rattle.serve_run.proofs.Following.{own_tends, own_follow, tends_on, follow_on}
 use Rattle.serve_run.proofs.Places.{set_some, times_set, less_last, times_last}
 use Rattle.serve_run.proofs.Records.{Spares, spared_calls, spared_takes, others_spared, own_callers, callers_more, among_more, never_before, joined_other, open_on, runs_on, removed_on, among_later}
-use Rattle.serve_run.proofs.Stepping.{timely_more, calls_more, takes_more, gains_steps}
+use Rattle.serve_run.proofs.Stepping.{all_more, timely_more, fed_more, fed_on, fed_one, calls_more, takes_more, gains_steps}
 
 pub other_place : (owner : ℕ → Option ℕ) (n m i j : ℕ) → owner n ≡ Some i → owner m ≡ Some j → (j ≡ i → ⊥) → n ≡ m → ⊥
 other_place owner n m i j p q apart e = let same : Some i ≡ Some j = sym p ∙ ap owner e ∙ q in apart (sym (some_number i j same))
@@ -51,9 +52,9 @@ either : {P Q C : Type 0} → P ⊎ Q → (P → C) → (Q → C) → C
 either (inl p) f g = f p
 either (inr q) f g = g q
 
-module _ (told : Option ℕ) (terms : Terms) (old : Around) (t : Tending) (s : LoopState) (h : Holds told terms old t s) (i : ℕ) (x y : SessionState) (k : Knows)
+module _ (told : Option ℕ) (terms : Terms) (old : Around) (t : Tending) (feeds : List Feed) (s : LoopState) (h : Holds told terms old t feeds s) (i : ℕ) (x y : SessionState) (k : Knows)
     (there : slice_get s.places i ≡ Some (Some x)) (early : Type 0) (may : early → MayEnd terms s.around.wait.over)
-    (st : StepsSession told early s.around.knows k x y) where
+    (more all : List Feed) (is_all : all ≡ feeds ++ more) (st : StepsSession told early more s.around.knows k x y) where
   before : IsOpen told h.steps h.owner i x
   before = h.open_are i x there
 
@@ -112,11 +113,13 @@ module _ (told : Option ℕ) (terms : Terms) (old : Around) (t : Tending) (s : L
       let r = st.fence_ends n e in
       subst (λ (m : ℕ). has_set m (calls_of m (h.steps ++ st.steps)) ≡ true) (sym r.0) (sym fenced_on ∙ r.1)
 
-  pub session_on : Holds told terms old t (record s { around = record s.around { knows = k }; places = slice_set s.places i (Some y) })
+  pub session_on : Holds told terms old t all (record s { around = record s.around { knows = k }; places = slice_set s.places i (Some y) })
   session_on = record {
     steps = h.steps ++ st.steps;
     gains = gains_steps old.knows s.around.knows k h.steps st.steps h.gains st.gains;
     timely = timely_more told h.steps st.steps h.timely st.timely;
+    fed = subst (λ (l : List Feed). AreFed l old.knows k (h.steps ++ st.steps)) (sym is_all)
+        (fed_more feeds more old.knows s.around.knows k h.steps st.steps h.fed st.fed);
     tends = tends_on t t h.steps st.steps h.tends (own_tends x.number t st.steps st.own);
     follow = follow_on terms t h.steps st.steps h.tends h.follow (own_follow x.number terms t st.steps st.own);
     callers = no_callers h.steps st.steps _ (own_callers x.number st.steps st.own) h.callers;
@@ -145,45 +148,78 @@ module _ (told : Option ℕ) (terms : Terms) (old : Around) (t : Tending) (s : L
 
   -- the session's steps are among all of them
   pub session_with : (z : Step) → IsAmong z st.steps
-      → (h' : Holds told terms old t (record s { around = record s.around { knows = k }; places = slice_set s.places i (Some y) })) × IsAmong z h'.steps
+      → (h' : Holds told terms old t all (record s { around = record s.around { knows = k }; places = slice_set s.places i (Some y) })) × IsAmong z h'.steps
       × ((n : ℕ) → ends_fence n st.steps ≡ true → ends_fence n h'.steps ≡ true)
   unfolding session_on
   session_with z a = (session_on, among_later z h.steps st.steps a, λ n e. ends_second n h.steps st.steps e)
 
 pub table_none : (told : Option ℕ) (terms : Terms) (k : Knows) (places : List (Option SessionState)) → KeepsTable told terms k k places places
-table_none told terms k places = λ d w joined starved is_over goes_on old t h. h
+table_none told terms k places = λ d w joined starved is_over goes_on old t feeds h. h
 
 pub table_more : (told : Option ℕ) (terms : Terms) (k1 k2 k3 : Knows) (a b c : List (Option SessionState)) → KeepsTable told terms k1 k2 a b
     → KeepsTable told terms k2 k3 b c → KeepsTable told terms k1 k3 a c
-table_more told terms k1 k2 k3 a b c p q = λ d w joined starved is_over goes_on old t h.
-    q d w joined starved is_over goes_on old t (p d w joined starved is_over goes_on old t h)
+table_more told terms k1 k2 k3 a b c p q = λ d w joined starved is_over goes_on old t feeds h.
+    q d w joined starved is_over goes_on old t feeds (p d w joined starved is_over goes_on old t feeds h)
 
 pub table_step : (told : Option ℕ) (terms : Terms) (k k' : Knows) (places : List (Option SessionState)) (i : ℕ) (x y : SessionState)
     → slice_get places i ≡ Some (Some x) → StepsOn told k k' x y → KeepsTable told terms k k' places (slice_set places i (Some y))
-table_step told terms k k' places i x y there st = λ d w joined starved is_over goes_on old t h.
-    session_on told terms old t (loop_state k d w places joined starved is_over goes_on) h i x y k' there ⊥ (λ e. absurd e) st
+table_step told terms k k' places i x y there st = λ d w joined starved is_over goes_on old t feeds h.
+    session_on told terms old t feeds (loop_state k d w places joined starved is_over goes_on) h i x y k' there ⊥ (λ e. absurd e) []
+    feeds (sym (append-nil feeds)) st
+
+-- the same, where asks were answered out of the log
+pub feeds_none : (By : Feed → Type 0) (told : Option ℕ) (terms : Terms) (k : Knows) (places : List (Option SessionState)) → FeedsTable By told terms k k places places
+feeds_none By told terms k places = (
+  [],
+  tt,
+  λ d w joined starved is_over goes_on old t feeds h.
+      subst (λ (l : List Feed). Holds told terms old t l (loop_state k d w places joined starved is_over goes_on)) (sym (append-nil feeds)) h,
+)
+
+pub feeds_table : (By : Feed → Type 0) (told : Option ℕ) (terms : Terms) (k1 k2 k3 : Knows) (a b c : List (Option SessionState)) → FeedsTable By told terms k1 k2 a b
+    → FeedsTable By told terms k2 k3 b c → FeedsTable By told terms k1 k3 a c
+feeds_table By told terms k1 k2 k3 a b c p q = (
+  p.0 ++ q.0,
+  all_more By p.0 q.0 p.1 q.1,
+  λ d w joined starved is_over goes_on old t feeds h.
+      subst (λ (l : List Feed). Holds told terms old t l (loop_state k3 d w c joined starved is_over goes_on)) (append_assoc feeds p.0 q.0)
+      (q.2 d w joined starved is_over goes_on old t (feeds ++ p.0) (p.2 d w joined starved is_over goes_on old t feeds h)),
+)
+
+pub feeds_step : (By : Feed → Type 0) (told : Option ℕ) (terms : Terms) (k k' : Knows) (places : List (Option SessionState)) (i : ℕ) (x y : SessionState)
+    → slice_get places i ≡ Some (Some x) → FeedsOn By told k k' x y → FeedsTable By told terms k k' places (slice_set places i (Some y))
+feeds_step By told terms k k' places i x y there st = (
+  st.0,
+  st.1,
+  λ d w joined starved is_over goes_on old t feeds h.
+      session_on told terms old t feeds (loop_state k d w places joined starved is_over goes_on) h i x y k' there ⊥ (λ e. absurd e) st.0
+      (feeds ++ st.0) refl st.2,
+)
 
 -- ---- a session is ended by the server
 
 pub early_none : (told : Option ℕ) (terms : Terms) (k : Knows) (w : WaitState) (places : List (Option SessionState)) → KeepsEarly told terms k w places places
-early_none told terms k w places = λ d joined starved is_over goes_on old t h. h
+early_none told terms k w places = λ d joined starved is_over goes_on old t feeds h. h
 
 pub early_step : (told : Option ℕ) (terms : Terms) (k : Knows) (w : WaitState) (places : List (Option SessionState)) (i : ℕ) (x y : SessionState)
     → MayEnd terms w.over → slice_get places i ≡ Some (Some x) → EndsEarly told k x y → KeepsEarly told terms k w places (slice_set places i (Some y))
-early_step told terms k w places i x y may there st = λ d joined starved is_over goes_on old t h.
-    session_on told terms old t (loop_state k d w places joined starved is_over goes_on) h i x y k there (Unit {0}) (λ e. may) st
+early_step told terms k w places i x y may there st = λ d joined starved is_over goes_on old t feeds h.
+    session_on told terms old t feeds (loop_state k d w places joined starved is_over goes_on) h i x y k there (Unit {0}) (λ e. may) []
+    feeds (sym (append-nil feeds)) st
 
 -- ---- entries of the seat's own, for no session of the table
 
 module _ (told : Option ℕ) (terms : Terms) (t : Tending) (k k' : Knows) (step : Step) (timely : IsTimely told step) (may : MayFollow terms t step) (spares : (n : ℕ) → Spares (step ∷ []) n)
-    (quiet : (n : ℕ) → ends_fence n (step ∷ []) ≡ false) (nobody : callers_of (step ∷ []) ≡ []) (gains : Gains k k' (step_acts step)) where
+    (quiet : (n : ℕ) → ends_fence n (step ∷ []) ≡ false) (nobody : callers_of (step ∷ []) ≡ []) (gains : Gains k k' (step_acts step))
+    (unfed : feeds_at k' step ≡ []) where
   pub table_aside : KeepsAside told terms t (tending_behind t step) k k'
-  table_aside = λ places d w joined starved is_over goes_on old h.
+  table_aside = λ places d w joined starved is_over goes_on old feeds h.
       let more : List Step = step ∷ [] in
       record {
         steps = h.steps ++ more;
         gains = gains_steps old.knows k k' h.steps more h.gains (subst (λ (l : List Act). Gains k k' l) (sym (append-nil (step_acts step))) gains);
         timely = timely_more told h.steps more h.timely (timely, tt);
+        fed = fed_on feeds old.knows k k' h.steps more h.fed (fed_one k k' step unfed gains);
         tends = tends_on t (tending_behind t step) h.steps more h.tends refl;
         follow = follow_on terms t h.steps more h.tends h.follow (may, tt);
         callers = no_callers h.steps more _ nobody h.callers;
@@ -213,20 +249,20 @@ module _ (told : Option ℕ) (terms : Terms) (t : Tending) (k k' : Knows) (step 
       }
 
 pub aside_none : (told : Option ℕ) (terms : Terms) (t : Tending) (k : Knows) → KeepsAside told terms t t k k
-aside_none told terms t k = λ places d w joined starved is_over goes_on old h. h
+aside_none told terms t k = λ places d w joined starved is_over goes_on old feeds h. h
 
 aside_more : (told : Option ℕ) (terms : Terms) (t1 t2 t3 : Tending) (k1 k2 k3 : Knows) → KeepsAside told terms t1 t2 k1 k2 → KeepsAside told terms t2 t3 k2 k3
     → KeepsAside told terms t1 t3 k1 k3
-aside_more told terms t1 t2 t3 k1 k2 k3 p q = λ places d w joined starved is_over goes_on old h.
-    q places d w joined starved is_over goes_on old (p places d w joined starved is_over goes_on old h)
+aside_more told terms t1 t2 t3 k1 k2 k3 p q = λ places d w joined starved is_over goes_on old feeds h.
+    q places d w joined starved is_over goes_on old feeds (p places d w joined starved is_over goes_on old feeds h)
 
 aside_tended : (told : Option ℕ) (terms : Terms) (t : Tending) (k k' : Knows) (m : ℕ) (log : LogState) → IsTold told m → Tends m k k' (Ok log)
     → KeepsAside told terms t (tended t log) k k'
-aside_tended told terms t k k' m log timely is = table_aside told terms t k k' (Tended m is.0 log) (timely, is.1) tt (λ n. (refl, refl)) (λ n. refl) refl is.2
+aside_tended told terms t k k' m log timely is = table_aside told terms t k k' (Tended m is.0 log) (timely, is.1) tt (λ n. (refl, refl)) (λ n. refl) refl is.2 refl
 
 aside_asked : (told : Option ℕ) (terms : Terms) (t : Tending) (k k' : Knows) → HasGrown terms t → Asks told k k' → KeepsAside told terms t t k k'
-aside_asked told terms t k k' grown (inl s) = table_aside told terms t k k' (Unshrunk s.0) tt grown (λ n. (refl, refl)) (λ n. refl) refl s.1
-aside_asked told terms t k k' grown (inr s) = table_aside told terms t k k' (Shrunk s.0 s.1 s.2) s.3 grown (λ n. (refl, refl)) (λ n. refl) refl s.4
+aside_asked told terms t k k' grown (inl s) = table_aside told terms t k k' (Unshrunk s.0) tt grown (λ n. (refl, refl)) (λ n. refl) refl s.1 refl
+aside_asked told terms t k k' grown (inr s) = table_aside told terms t k k' (Shrunk s.0 s.1 s.2) s.3 grown (λ n. (refl, refl)) (λ n. refl) refl s.4 refl
 
 aside_shrunk : (told : Option ℕ) (terms : Terms) (t : Tending) (k k' : Knows) → ShrinksOn told terms t k k' → KeepsAside told terms t t k k'
 aside_shrunk told terms t k k' (inl same) = subst (λ (x : Knows). KeepsAside told terms t t k x) (sym same) (aside_none told terms t k)
@@ -237,7 +273,7 @@ wanted_table : (told : Option ℕ) (terms : Terms) (t t' : Tending) (k k' : Know
     → (HasWanted t m → ⊥) → t' ≡ wanted t m → KeepsAside told terms t t' k k'
 wanted_table told terms t t' k k' m timely is short same =
     subst (λ (x : Tending). KeepsAside told terms t x k k') (sym same)
-    (table_aside told terms t k k' (Wanting m is.0 is.1) (timely, is.2, is.3) short (λ n. (refl, refl)) (λ n. refl) refl is.4)
+    (table_aside told terms t k k' (Wanting m is.0 is.1) (timely, is.2, is.3) short (λ n. (refl, refl)) (λ n. refl) refl is.4 refl)
 
 -- the end came with a tick or a step behind it
 ended_table : (told : Option ℕ) (terms : Terms) (t t' : Tending) (k k' : Knows) (m : ℕ) (e : ServeEnd) → IsTold told m → Tends m k k' (Err e)
@@ -269,10 +305,11 @@ shrunk_table told terms t t' log k mid k' m (Some e) timely is s same = (mid, te
 -- the loop ends
 pub goes_off : (told : Option ℕ) (terms : Terms) (k : Knows) (d : DoorState) (w : WaitState) (places : List (Option SessionState)) (joined starved : ℕ) (is_over goes : Bool)
     → Keeps told terms (loop_state k d w places joined starved is_over goes) (loop_state k d w places joined starved is_over false)
-goes_off told terms k d w places joined starved is_over goes = λ old t h. record {
+goes_off told terms k d w places joined starved is_over goes = λ old t feeds h. record {
   steps = h.steps;
   gains = h.gains;
   timely = h.timely;
+  fed = h.fed;
   tends = h.tends;
   follow = h.follow;
   callers = h.callers;
@@ -302,10 +339,11 @@ goes_off told terms k d w places joined starved is_over goes = λ old t h. recor
 -- a place with nobody goes
 pub pop_none : (told : Option ℕ) (terms : Terms) (k : Knows) (d : DoorState) (w : WaitState) (places : List (Option SessionState)) (joined starved : ℕ) (is_over goes : Bool)
     → Keeps told terms (loop_state k d w (places ++ None ∷ []) joined starved is_over goes) (loop_state k d w places joined starved is_over false)
-pop_none told terms k d w places joined starved is_over goes = λ old t h. record {
+pop_none told terms k d w places joined starved is_over goes = λ old t feeds h. record {
   steps = h.steps;
   gains = h.gains;
   timely = h.timely;
+  fed = h.fed;
   tends = h.tends;
   follow = h.follow;
   callers = h.callers;

@@ -8,13 +8,14 @@ use Rattle.outside.specs.Causes.{next_count}
 use Rattle.world_model.specs.declared.events.Outcome.{Outcome}
 use Rattle.world_model.specs.declared.events.Outcome.TheVariants as outcome
 use Rattle.outside.specs.Links.{LinkState}
+use Rattle.repl_stream.specs.Feeds.{called_of}
 use Rattle.session_run.specs.Calls.{Call}
 use Rattle.session_run.specs.Live.{has_set}
 use Rattle.session_run.specs.Outs.{bytes_given}
 use Rattle.session_run.specs.Sessions.{SessionState}
 use Rattle.session_run.specs.SoFar.{AskedSoFar, WrittenSoFar}
 use Rattle.session_run.specs.Turns.{turn_calls}
-use Rattle.serve_run.specs.Steps.{Step, Tended, Wanting, Shrunk, Unshrunk, Joined, Called, Took, Closed, Removed, Unfenced, Unended, Unasked, calls_of, takes_of, caller_in, callers_of, numbered, behind_callers, IsAmong}
+use Rattle.serve_run.specs.Steps.{Step, Tended, Wanting, Shrunk, Unshrunk, Joined, Called, Fed, Took, Closed, Removed, Unfenced, Unended, Unasked, asks_of, served_by, parts_of, calls_of, takes_of, caller_in, callers_of, numbered, behind_callers, IsAmong}
 use Rattle.serve_run.specs.Runs.{LinkRun, LinkFate, TurnedOut, Starved, Unwatched, Served, IsUnserved, HasFate, Wrote, IsRun, AreRuns, AreThrough, WatchFault, WatchFaults, MayEnd, EndCause, FateCause, FateCauses, EndsFence, IsRemoved, AreRemoved, is_through, one_if, times, times_shut, told_of, told_links, starved_in, starved_of}
 use Rattle.serve_run.specs.declared.terms.Terms.{Terms}
 use Rattle.session_run.specs.declared.ends.InEnd.{InEnd}
@@ -49,6 +50,10 @@ other_calls n m other (Joined caller o ∷ steps) own = absurd own.0
 other_calls n m other (Called k t asked served end ∷ steps) own =
     ap (λ (l : List Call). l ++ calls_of m steps) (not_if (k == m) (turn_calls t asked served end) (ne_eqb k m (λ e. other (sym own.0 ∙ e))))
     ∙ other_calls n m other steps own.1
+other_calls n m other (Fed k t ask answer bytes ∷ steps) own =
+    ap (λ (l : List Call). l ++ calls_of m steps)
+    (not_if (k == m) (turn_calls t (asks_of ask) (served_by answer) (called_of answer)) (ne_eqb k m (λ e. other (sym own.0 ∙ e))))
+    ∙ other_calls n m other steps own.1
 other_calls n m other (Took k o ∷ steps) own = other_calls n m other steps own.1
 other_calls n m other (Closed k ∷ steps) own = other_calls n m other steps own.1
 other_calls n m other (Removed k ∷ steps) own = other_calls n m other steps own.1
@@ -64,6 +69,9 @@ other_takes n m other (Shrunk k t c ∷ steps) own = absurd own.0
 other_takes n m other (Unshrunk o ∷ steps) own = absurd own.0
 other_takes n m other (Joined caller o ∷ steps) own = absurd own.0
 other_takes n m other (Called k t asked served end ∷ steps) own = other_takes n m other steps own.1
+other_takes n m other (Fed k t ask answer bytes ∷ steps) own =
+    ap (λ (l : List Outcome). l ++ takes_of m steps) (not_if (k == m) (parts_of answer bytes) (ne_eqb k m (λ e. other (sym own.0 ∙ e))))
+    ∙ other_takes n m other steps own.1
 other_takes n m other (Took k o ∷ steps) own =
     ap (λ (l : List Outcome). l ++ takes_of m steps) (not_if (k == m) (o ∷ []) (ne_eqb k m (λ e. other (sym own.0 ∙ e))))
     ∙ other_takes n m other steps own.1
@@ -84,6 +92,7 @@ own_callers n (Shrunk k t c ∷ steps) own = absurd own.0
 own_callers n (Unshrunk o ∷ steps) own = absurd own.0
 own_callers n (Joined caller o ∷ steps) own = absurd own.0
 own_callers n (Called k t asked served end ∷ steps) own = own_callers n steps own.1
+own_callers n (Fed k t ask answer bytes ∷ steps) own = own_callers n steps own.1
 own_callers n (Took k o ∷ steps) own = own_callers n steps own.1
 own_callers n (Closed k ∷ steps) own = own_callers n steps own.1
 own_callers n (Removed k ∷ steps) own = own_callers n steps own.1

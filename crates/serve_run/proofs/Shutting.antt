@@ -30,6 +30,7 @@ use Rattle.serve_run.specs.Steps.{Step, Removed, IsAmong, calls_of, takes_of, ca
 use Rattle.serve_run.specs.Runs.{LinkRun, Served, AskingEnds, Wrote, IsServed, EndsFence, is_through, MayEnd, EndCause, one_if, times, times_shut}
 use Rattle.serve_run.specs.declared.tendings.Tending.{Tending}
 use Rattle.serve_run.specs.declared.terms.Terms.{Terms}
+use Rattle.serve_run.specs.Feeds.{Feed}
 use Rattle.serve_run.specs.Loops.{Around}
 use Rattle.serve_run.specs.SessionSteps.{StepsOn, RemovesSession, RemovesTo}
 use Rattle.serve_run.specs.LoopStates.{LoopState, loop_state, IsOpen, Holds, Keeps, KeepsTable, KeepsShut, KeepsShutTo, times_open}
@@ -157,7 +158,7 @@ shut_over_same w w' false link s = ap (λ (x : WaitState). x.over) s
 
 -- ---- a session leaves the table, and its link is shut
 
-module _ (told : Option ℕ) (terms : Terms) (old : Around) (t : Tending) (s : LoopState) (h : Holds told terms old t s) (i : ℕ) (x : SessionState) (there : slice_get s.places i ≡ Some (Some x))
+module _ (told : Option ℕ) (terms : Terms) (old : Around) (t : Tending) (feeds : List Feed) (s : LoopState) (h : Holds told terms old t feeds s) (i : ℕ) (x : SessionState) (there : slice_get s.places i ≡ Some (Some x))
     (w : WaitState) (b : Bool) (places : List (Option SessionState)) (goes : Bool) (shuts : ShutBy s.around.wait w b x.line)
     (less : (j : ℕ) → (z : SessionState) → slice_get places j ≡ Some (Some z) → (j ≡ i → ⊥) × (slice_get s.places j ≡ Some (Some z)))
     (fewer : (c : ℕ) → times_open c places + one_if (x.line.caller == c) ≡ times_open c s.places)
@@ -196,11 +197,12 @@ module _ (told : Option ℕ) (terms : Terms) (old : Around) (t : Tending) (s : L
   early_run : EndCause (MayEnd terms w.over) (end_of_asking x.asking) (through_by x.taking x.out)
   early_run = let c = h.early_open i x there in (λ e. may_still (c.0 e), λ e. may_still (c.1 (through_is x.taking x.out took.Late e)))
 
-  pub session_off : Holds told terms old t (record s { around = record s.around { wait = w }; places = places; goes_on = goes })
+  pub session_off : Holds told terms old t feeds (record s { around = record s.around { wait = w }; places = places; goes_on = goes })
   session_off = record {
     steps = h.steps;
     gains = h.gains;
     timely = h.timely;
+    fed = h.fed;
     tends = h.tends;
     follow = h.follow;
     callers = h.callers;
@@ -236,23 +238,23 @@ module _ (told : Option ℕ) (terms : Terms) (old : Around) (t : Tending) (s : L
   }
 
 pub shut_same : (told : Option ℕ) (terms : Terms) (k : Knows) (w : WaitState) (places : List (Option SessionState)) → KeepsShut told terms k k w w places places true
-shut_same told terms k w places = λ d joined starved is_over old t h. h
+shut_same told terms k w places = λ d joined starved is_over old t feeds h. h
 
 pub shut_more : (told : Option ℕ) (terms : Terms) (k1 k2 k3 : Knows) (w1 w2 w3 : WaitState) (a b c : List (Option SessionState)) (is_told : Bool)
     → KeepsShut told terms k1 k2 w1 w2 a b true → KeepsShut told terms k2 k3 w2 w3 b c is_told → KeepsShut told terms k1 k3 w1 w3 a c is_told
-shut_more told terms k1 k2 k3 w1 w2 w3 a b c is_told p q = λ d joined starved is_over old t h. q d joined starved is_over old t (p d joined starved is_over old t h)
+shut_more told terms k1 k2 k3 w1 w2 w3 a b c is_told p q = λ d joined starved is_over old t feeds h. q d joined starved is_over old t feeds (p d joined starved is_over old t feeds h)
 
 -- the session of a place was removed from the hall, and its link shut
 pub shut_place : (told : Option ℕ) (terms : Terms) (k k' : Knows) (w w' : WaitState) (places : List (Option SessionState)) (i : ℕ) (x : SessionState) (b : Bool)
     → slice_get places i ≡ Some (Some x) → IsOver x → RemovesSession told k k' x → ShutBy w w' b x.line
     → KeepsShut told terms k k' w w' places (slice_set places i None) b
-shut_place told terms k k' w w' places i x b there over st shuts = λ d joined starved is_over old t h.
+shut_place told terms k k' w w' places i x b there over st shuts = λ d joined starved is_over old t feeds h.
     let s = loop_state k d w places joined starved is_over true in
-    let on = session_with told terms old t s h i x x k' there ⊥ (λ e. absurd e) st.0 (Removed x.number) st.1 in
+    let on = session_with told terms old t feeds s h i x x k' there ⊥ (λ e. absurd e) [] feeds (sym (append-nil feeds)) st.0 (Removed x.number) st.1 in
     let mid = slice_set places i (Some x) in
     let at : slice_get mid i ≡ Some (Some x) = set_there places i (Some x) (Some x) there in
-    subst (λ (l : List (Option SessionState)). Holds told terms old t (loop_state k' d w' l joined starved is_over b)) (set_again places i (Some x) None)
-    (session_off told terms old t (loop_state k' d w mid joined starved is_over true) on.0 i x at w' b (slice_set mid i None) b shuts
+    subst (λ (l : List (Option SessionState)). Holds told terms old t feeds (loop_state k' d w' l joined starved is_over b)) (set_again places i (Some x) None)
+    (session_off told terms old t feeds (loop_state k' d w mid joined starved is_over true) on.0 i x at w' b (slice_set mid i None) b shuts
     (λ j z is. set_none mid i j z is)
     (λ c. let t = times_set c mid i (Some x) None at in omega (arith, t))
     (λ is. (
@@ -260,23 +262,23 @@ shut_place told terms k k' w w' places i x b there over st shuts = λ d joined s
       is,
       over_through x.number (end_of_asking x.asking) x.taking x.out over.0 over.1,
       on.1,
-      λ set. on.2 x.number (st.2 (fenced_at told terms old t (loop_state k' d w mid joined starved is_over true) on.0 i x at ∙ set)),
+      λ set. on.2 x.number (st.2 (fenced_at told terms old t feeds (loop_state k' d w mid joined starved is_over true) on.0 i x at ∙ set)),
     )))
   where
-    fenced_at : (told : Option ℕ) (terms : Terms) (old : Around) (t : Tending) (s : LoopState) (h : Holds told terms old t s) (i : ℕ) (x : SessionState)
+    fenced_at : (told : Option ℕ) (terms : Terms) (old : Around) (t : Tending) (feeds : List Feed) (s : LoopState) (h : Holds told terms old t feeds s) (i : ℕ) (x : SessionState)
         → slice_get s.places i ≡ Some (Some x) → x.is_fenced ≡ has_set x.number (calls_of x.number h.steps)
-    fenced_at told terms old t s h i x at = let o = h.open_are i x at in o.fenced
+    fenced_at told terms old t feeds s h i x at = let o = h.open_are i x at in o.fenced
 
 -- the same, where the removal brought the end of the loop
 shut_ended : (told : Option ℕ) (terms : Terms) (k mid : Knows) (w w' : WaitState) (places : List (Option SessionState)) (i : ℕ) (x : SessionState) (b : Bool)
     → slice_get places i ≡ Some (Some x) → StepsOn told k mid x x → ShutBy w w' b x.line → KeepsShut told terms k mid w w' places (slice_set places i None) false
-shut_ended told terms k k' w w' places i x b there st shuts = λ d joined starved is_over old t h.
+shut_ended told terms k k' w w' places i x b there st shuts = λ d joined starved is_over old t feeds h.
     let s = loop_state k d w places joined starved is_over true in
-    let on = session_on told terms old t s h i x x k' there ⊥ (λ e. absurd e) st in
+    let on = session_on told terms old t feeds s h i x x k' there ⊥ (λ e. absurd e) [] feeds (sym (append-nil feeds)) st in
     let mid = slice_set places i (Some x) in
     let at : slice_get mid i ≡ Some (Some x) = set_there places i (Some x) (Some x) there in
-    subst (λ (l : List (Option SessionState)). Holds told terms old t (loop_state k' d w' l joined starved is_over false)) (set_again places i (Some x) None)
-    (session_off told terms old t (loop_state k' d w mid joined starved is_over true) on i x at w' b (slice_set mid i None) false shuts
+    subst (λ (l : List (Option SessionState)). Holds told terms old t feeds (loop_state k' d w' l joined starved is_over false)) (set_again places i (Some x) None)
+    (session_off told terms old t feeds (loop_state k' d w mid joined starved is_over true) on i x at w' b (slice_set mid i None) false shuts
     (λ j z is. set_none mid i j z is)
     (λ c. let t = times_set c mid i (Some x) None at in omega (arith, t))
     (λ is. absurd (cc)))
@@ -297,8 +299,8 @@ shut_more_to told terms k1 k2 k3 w1 w2 w3 a b c (Some e) p q = (q.0, shut_more t
 -- the last session of the table leaves it as the loop ends
 pub shut_last : (told : Option ℕ) (terms : Terms) (k : Knows) (d : DoorState) (w w' : WaitState) (places : List (Option SessionState)) (x : SessionState) (b : Bool) (joined starved : ℕ)
     (is_over goes : Bool) → ShutBy w w' b x.line → Keeps told terms (loop_state k d w (places ++ Some x ∷ []) joined starved is_over goes) (loop_state k d w' places joined starved is_over false)
-shut_last told terms k d w w' places x b joined starved is_over goes shuts = λ old t h.
-    session_off told terms old t (loop_state k d w (places ++ Some x ∷ []) joined starved is_over goes) h (length places) x (at_last places (Some x)) w' b places false shuts
+shut_last told terms k d w w' places x b joined starved is_over goes shuts = λ old t feeds h.
+    session_off told terms old t feeds (loop_state k d w (places ++ Some x ∷ []) joined starved is_over goes) h (length places) x (at_last places (Some x)) w' b places false shuts
     (λ j z is. (λ e. let r = not_last places j z is in absurd (omega (arith, r, e)), less_last places (Some x) j z is))
     (λ c. let t = times_last c places (Some x) in omega (arith, t))
     (λ is. absurd (cc))
@@ -306,10 +308,10 @@ shut_last told terms k d w w' places x b joined starved is_over goes shuts = λ 
 -- sessions of the table went on before that
 pub table_then : (told : Option ℕ) (terms : Terms) (k1 k2 k3 : Knows) (w w' : WaitState) (a b c : List (Option SessionState)) (o : Option ServeEnd)
     → KeepsTable told terms k1 k2 a b → KeepsShutTo told terms k2 k3 w w' b c o → KeepsShutTo told terms k1 k3 w w' a c o
-table_then told terms k1 k2 k3 w w' a b c None p q = λ d joined starved is_over old t h.
-    q d joined starved is_over old t (p d w joined starved is_over true old t h)
+table_then told terms k1 k2 k3 w w' a b c None p q = λ d joined starved is_over old t feeds h.
+    q d joined starved is_over old t feeds (p d w joined starved is_over true old t feeds h)
 table_then told terms k1 k2 k3 w w' a b c (Some e) p q = (
   q.0,
-  λ d joined starved is_over old t h. q.1 d joined starved is_over old t (p d w joined starved is_over true old t h),
+  λ d joined starved is_over old t feeds h. q.1 d joined starved is_over old t feeds (p d w joined starved is_over true old t feeds h),
   q.2,
 )

@@ -1,7 +1,7 @@
 -- The steps of one session, and what they add to its records.
 use Rattle.std.proofs.Common.{◌≡◌, ◌⊎◌, ◌<◌, ◌==◌, ℕ, zero, suc, Bool, true, false, List, [], ◌∷◌, ◌++◌, refl, sym, ap, ◌∙◌, subst, inl, inr, arith, append_assoc}
-use Rattle.std.specs.Prelude.{Option, Some, None, Result, Ok, Err, ◌||◌, length, take, drop, if◌then◌else◌}
-use Rattle.std.specs.List.{list_any}
+use Rattle.std.specs.Prelude.{Option, Some, None, Result, Ok, Err, IfSome, ◌||◌, length, take, drop, if◌then◌else◌}
+use Rattle.std.specs.List.{list_any, slice_get, AllByRecursion}
 use Rattle.std.proofs.Math.Bool.{or-false}
 use Rattle.std.proofs.lemmas.List.{append-nil}
 use Rattle.std.proofs.lemmas.Grind.{flat_map-append}
@@ -40,9 +40,17 @@ use Rattle.session_run.specs.Steps.{got_bytes, UnlessMemory, Readies, AsksOn, An
 use Rattle.session_run.specs.Turns.{turn_calls}
 use Rattle.session_run.specs.AskedSteps.{asked_read, asked_answered, asked_taken, asked_written, asked_dismissed, asked_cut, asked_fenced}
 use Rattle.session_run.specs.WrittenSteps.{written_read, written_answered, written_taken, written_sent, written_dismissed, written_cut}
+use Rattle.repl_stream.specs.Feeds.{called_of}
+use Rattle.world_model.specs.declared.events.Asked.TheVariants as asks_for
+use Rattle.repl_stream.specs.Texts.{part_text, IsAskOf}
+use Rattle.repl_stream.specs.declared.asks.Ask.{Ask}
+use Rattle.repl_stream.specs.declared.parts.Part.{Part}
+use Rattle.repl_stream.specs.declared.feeds.PartAnswer.{PartAnswer}
+use Rattle.repl_stream.specs.declared.feeds.PartAnswer.TheVariants as part
 use Rattle.serve_run.specs.Tends.{IsTold}
-use Rattle.serve_run.specs.Steps.{Step, Called, Took, Closed, step_acts, steps_acts, calls_in, calls_of, takes_in, takes_of, ends_fence, AreTimely}
-use Rattle.serve_run.specs.SessionSteps.{AreOf, EndsBy, StepsSession, StepsOn, EndsEarly}
+use Rattle.serve_run.specs.Feeds.{Feed, feeds_at, AreFed}
+use Rattle.serve_run.specs.Steps.{Step, Called, Fed, Took, Closed, asks_of, served_by, parts_of, step_acts, steps_acts, calls_in, calls_of, takes_in, takes_of, ends_fence, AreTimely}
+use Rattle.serve_run.specs.SessionSteps.{AreOf, EndsBy, StepsSession, StepsOn, FeedsOn, EndsEarly}
 use Rattle.serve_run.proofs.Fencing.{either_true, first_true, ends_more, fence_more}
 
 pub same_test : (n : ℕ) → (n == n) ≡ true
@@ -57,6 +65,27 @@ of_more n (x ∷ a) b p q = (p.0, of_more n a b p.1 q)
 pub timely_more : (told : Option ℕ) (a b : List Step) → AreTimely told a → AreTimely told b → AreTimely told (a ++ b)
 timely_more told [] b p q = q
 timely_more told (x ∷ a) b p q = (p.0, timely_more told a b p.1 q)
+
+pub all_more : (By : Feed → Type 0) (a b : List Feed) → AllByRecursion By a → AllByRecursion By b → AllByRecursion By (a ++ b)
+all_more By [] b p q = q
+all_more By (x ∷ a) b p q = (p.0, all_more By a b p.1 q)
+
+pub fed_more : (fs gs : List Feed) (k1 k2 k3 : Knows) (a b : List Step) → AreFed fs k1 k2 a → AreFed gs k2 k3 b → AreFed (fs ++ gs) k1 k3 (a ++ b)
+fed_more fs gs k1 k2 k3 [] b p q = subst (λ (l : List Feed). AreFed (l ++ gs) k1 k3 b) (sym p.1) (subst (λ (k : Knows). AreFed gs k k3 b) p.0 q)
+fed_more fs gs k1 k2 k3 (x ∷ a) b p q = (
+  p.0,
+  p.1,
+  p.2 ++ gs,
+  ap (λ (l : List Feed). l ++ gs) p.3 ∙ append_assoc (feeds_at p.0 x) p.2 gs,
+  fed_more p.2 gs p.0 k2 k3 a b p.4 q,
+)
+
+-- steps that feed nobody
+pub fed_on : (fs : List Feed) (k1 k2 k3 : Knows) (a b : List Step) → AreFed fs k1 k2 a → AreFed [] k2 k3 b → AreFed fs k1 k3 (a ++ b)
+fed_on fs k1 k2 k3 a b p q = subst (λ (l : List Feed). AreFed l k1 k3 (a ++ b)) (append-nil fs) (fed_more fs [] k1 k2 k3 a b p q)
+
+pub fed_one : (k k' : Knows) (step : Step) → feeds_at k' step ≡ [] → Gains k k' (step_acts step) → AreFed [] k k' (step ∷ [])
+fed_one k k' step none gains = (k', gains, [], sym (ap (λ (l : List Feed). l ++ []) none), (refl, refl))
 
 pub acts_more : (a b : List Step) → steps_acts (a ++ b) ≡ steps_acts a ++ steps_acts b
 acts_more a b = flat_map-append step_acts a b
@@ -74,8 +103,8 @@ further : {P Q early : Type 0} → P ⊎ early → (P → Q ⊎ early) → Q ⊎
 further (inl p) f = f p
 further (inr e) f = inr e
 
-module _ (told : Option ℕ) (early : Type 0) (k1 k2 k3 : Knows) (s t u : SessionState) (a : StepsSession told early k1 k2 s t)
-    (b : StepsSession told early k2 k3 t u) where
+module _ (told : Option ℕ) (early : Type 0) (fs gs : List Feed) (k1 k2 k3 : Knows) (s t u : SessionState) (a : StepsSession told early fs k1 k2 s t)
+    (b : StepsSession told early gs k2 k3 t u) where
   ends_both : (n : ℕ) → ends_fence n (a.steps ++ b.steps) ≡ true → (n ≡ s.number) × (u.is_fenced ≡ true)
   ends_both n is = by (either_true (ends_fence n a.steps) (ends_fence n b.steps) (sym (ends_more n a.steps b.steps) ∙ is))
     where
@@ -89,13 +118,14 @@ module _ (told : Option ℕ) (early : Type 0) (k1 k2 k3 : Knows) (s t u : Sessio
   fenced_both = fence_more s.number s.is_fenced t.is_fenced u.is_fenced a.steps b.steps a.fenced
       (subst (λ (n : ℕ). u.is_fenced ≡ (t.is_fenced || has_set n (calls_of n b.steps))) a.number b.fenced)
 
-pub steps_more : (told : Option ℕ) (early : Type 0) (k1 k2 k3 : Knows) (s t u : SessionState) → StepsSession told early k1 k2 s t
-    → StepsSession told early k2 k3 t u → StepsSession told early k1 k3 s u
-steps_more told early k1 k2 k3 s t u a b = record {
+steps_both : (told : Option ℕ) (early : Type 0) (fs gs : List Feed) (k1 k2 k3 : Knows) (s t u : SessionState) → StepsSession told early fs k1 k2 s t
+    → StepsSession told early gs k2 k3 t u → StepsSession told early (fs ++ gs) k1 k3 s u
+steps_both told early fs gs k1 k2 k3 s t u a b = record {
   steps = a.steps ++ b.steps;
   own = of_more s.number a.steps b.steps a.own (subst (λ (n : ℕ). AreOf n b.steps) a.number b.own);
   gains = gains_steps k1 k2 k3 a.steps b.steps a.gains b.gains;
   timely = timely_more told a.steps b.steps a.timely b.timely;
+  fed = fed_more fs gs k1 k2 k3 a.steps b.steps a.fed b.fed;
   number = b.number ∙ a.number;
   caller = b.caller ∙ a.caller;
   asked = λ calls came x. subst (λ (l : List Call). AskedSoFar told l came u)
@@ -103,13 +133,25 @@ steps_more told early k1 k2 k3 s t u a b = record {
       (subst (λ (n : ℕ). AskedSoFar told ((calls ++ calls_of s.number a.steps) ++ calls_of n b.steps) came u) a.number
       (b.asked (calls ++ calls_of s.number a.steps) came (a.asked calls came x)));
   ends = (λ e. further (b.ends.0 e) a.ends.0, λ e. further (b.ends.1 e) a.ends.1);
-  fenced = fenced_both told early k1 k2 k3 s t u a b;
-  fence_ends = ends_both told early k1 k2 k3 s t u a b;
+  fenced = fenced_both told early fs gs k1 k2 k3 s t u a b;
+  fence_ends = ends_both told early fs gs k1 k2 k3 s t u a b;
   written = λ takes came x. subst (λ (l : List Outcome). WrittenSoFar l came u)
       (append_assoc takes (takes_of s.number a.steps) (takes_of s.number b.steps) ∙ ap (λ (l : List Outcome). takes ++ l) (sym (takes_more s.number a.steps b.steps)))
       (subst (λ (n : ℕ). WrittenSoFar ((takes ++ takes_of s.number a.steps) ++ takes_of n b.steps) came u) a.number
       (b.written (takes ++ takes_of s.number a.steps) came (a.written takes came x)));
 }
+
+pub steps_more : (told : Option ℕ) (early : Type 0) (k1 k2 k3 : Knows) (s t u : SessionState) → StepsSession told early [] k1 k2 s t
+    → StepsSession told early [] k2 k3 t u → StepsSession told early [] k1 k3 s u
+steps_more told early k1 k2 k3 s t u a b = steps_both told early [] [] k1 k2 k3 s t u a b
+
+-- the same, where asks were answered out of the log
+pub feeds_more : (By : Feed → Type 0) (told : Option ℕ) (k1 k2 k3 : Knows) (s t u : SessionState) → FeedsOn By told k1 k2 s t → FeedsOn By told k2 k3 t u
+    → FeedsOn By told k1 k3 s u
+feeds_more By told k1 k2 k3 s t u a b = (a.0 ++ b.0, all_more By a.0 b.0 a.1 b.1, steps_both told ⊥ a.0 b.0 k1 k2 k3 s t u a.2 b.2)
+
+pub unfed : (By : Feed → Type 0) (told : Option ℕ) (k k' : Knows) (s t : SessionState) → StepsOn told k k' s t → FeedsOn By told k k' s t
+unfed By told k k' s t st = ([], tt, st)
 
 -- ---- how the server ends a session, and that others' steps don't
 
@@ -200,12 +242,13 @@ answer_ends s t asked served called.Memory is = stop_ends s t asked served calle
 
 quiet : (told : Option ℕ) (early : Type 0) (k : Knows) (s t : SessionState) → EndsBy early s t → t.is_fenced ≡ s.is_fenced → t.number ≡ s.number → t.line.caller ≡ s.line.caller
     → ((calls : List Call) → (came : LinkState) → AskedSoFar told calls came s → AskedSoFar told calls came t)
-    → ((takes : List Outcome) → (came : LinkState) → WrittenSoFar takes came s → WrittenSoFar takes came t) → StepsSession told early k k s t
+    → ((takes : List Outcome) → (came : LinkState) → WrittenSoFar takes came s → WrittenSoFar takes came t) → StepsSession told early [] k k s t
 quiet told early k s t ends fenced number caller asked written = record {
   steps = [];
   own = tt;
   gains = refl;
   timely = tt;
+  fed = (refl, refl);
   number = number;
   caller = caller;
   asked = λ calls came x. subst (λ (l : List Call). AskedSoFar told l came t) (sym (append-nil calls)) (asked calls came x);
@@ -215,7 +258,7 @@ quiet told early k s t ends fenced number caller asked written = record {
   written = λ takes came x. subst (λ (l : List Outcome). WrittenSoFar l came t) (sym (append-nil takes)) (written takes came x);
 }
 
-pub steps_none : (told : Option ℕ) (early : Type 0) (k : Knows) (s : SessionState) → StepsSession told early k k s s
+pub steps_none : (told : Option ℕ) (early : Type 0) (k : Knows) (s : SessionState) → StepsSession told early [] k k s s
 steps_none told early k s = quiet told early k s s (ends_same early s s refl refl) refl refl refl (λ calls came x. x) (λ takes came x. x)
 
 read_number : {E : Type 0} (s t : SessionState) (r : Result Got E) (into : Bytes) → Readies s t r into → t.number ≡ s.number
@@ -301,6 +344,7 @@ steps_taken told k k' s t o wants adds takes = record {
   own = (refl, tt);
   gains = gains_one k k' (event.Take s.number, o) (made (event.Take s.number) o k k' adds);
   timely = (tt, tt);
+  fed = fed_one k k' (Took s.number o) refl (gains_one k k' (event.Take s.number, o) (made (event.Take s.number) o k k' adds));
   number = take_number s t o takes;
   caller = take_caller s t o takes;
   asked = λ calls came x. subst (λ (l : List Call). AskedSoFar told l came t) (sym (append-nil calls)) (asked_taken told calls came s t x o takes);
@@ -316,6 +360,7 @@ steps_closed told k k' s adds = record {
   own = (refl, tt);
   gains = gains_one k k' (event.Close s.number, outcome.Done) (made (event.Close s.number) outcome.Done k k' adds);
   timely = (tt, tt);
+  fed = fed_one k k' (Closed s.number) refl (gains_one k k' (event.Close s.number, outcome.Done) (made (event.Close s.number) outcome.Done k k' adds));
   number = refl;
   caller = refl;
   asked = λ calls came x. subst (λ (l : List Call). AskedSoFar told l came s) (sym (append-nil calls)) x;
@@ -360,6 +405,10 @@ owes_bare (Some took.Memory) held s b given o = o
 owes_bare (Some took.Late) held s b given o = o
 owes_bare (Some end) held s b given o = o
 
+written_bare : (takes : List Outcome) (came : LinkState) (s : SessionState) (b : Bool) → WrittenSoFar takes came s
+    → WrittenSoFar takes came (record s { asked = []; is_fenced = b })
+written_bare takes came s b x = record { owes = owes_bare s.taking came.held s b (bytes_given s.number takes) x.owes; last = x.last; cause = x.cause; later = x.later }
+
 -- the requests in hand, of a session from which they were moved out
 steps_answered : (told : Option ℕ) (m : ℕ) → IsTold told m → (k k' : Knows) (s t : SessionState) (served : ℕ) (end : CallOutcome) (named : List ℕ)
     → WantsTurn s → IsCount served end (length s.asked) → AddsNamed (call_acts s.number m s.asked served end) named k k'
@@ -375,6 +424,8 @@ steps_answered told m timely k k' s t served end named wants count adds answered
       gains = subst (λ (l : List Act). Gains k k' l) (sym (append-nil (call_acts s.number m s.asked served end)))
           (gains_calls (call_acts s.number m s.asked served end) k k' (some_acts s.number m served end s.asked wants.2 count) adds.adds);
       timely = (timely, tt);
+      fed = fed_one k k' (Called s.number m s.asked served end) refl
+          (gains_calls (call_acts s.number m s.asked served end) k k' (some_acts s.number m served end s.asked wants.2 count) adds.adds);
       number = same.0;
       caller = same.1;
       asked = λ calls came x. subst (λ (l : List Call). AskedSoFar told (calls ++ l) came t) (sym (called_at s.number m served end s.asked))
@@ -387,10 +438,6 @@ steps_answered told m timely k k' s t served end named wants count adds answered
       written = λ takes came x. subst (λ (l : List Outcome). WrittenSoFar l came t) (sym (append-nil takes))
           (written_answered takes came (record s { asked = []; is_fenced = t.is_fenced }) (written_bare takes came s t.is_fenced x) t s.asked served end answered);
     }
-  where
-    written_bare : (takes : List Outcome) (came : LinkState) (s : SessionState) (b : Bool) → WrittenSoFar takes came s
-        → WrittenSoFar takes came (record s { asked = []; is_fenced = b })
-    written_bare takes came s b x = record { owes = owes_bare s.taking came.held s b (bytes_given s.number takes) x.owes; last = x.last; cause = x.cause; later = x.later }
 
 pub steps_asked : (told : Option ℕ) (m : ℕ) → IsTold told m → (k k' : Knows) (s mid t : SessionState) (moved asked : List Asked) (served : ℕ) (end : CallOutcome)
     (named : List ℕ) → WantsTurn s → moved ≡ s.asked → mid ≡ record s { asked = [] } → asked ≡ moved → IsCount served end (length moved)
@@ -410,3 +457,160 @@ steps_asked told m timely k k' s mid t moved asked served end named wants is bar
     (subst (λ (l : List Asked). t.is_fenced ≡ (mid.is_fenced || list_any (sets_channel mid.number) (take served l))) all fenced))
     (subst (λ (x : SessionState). UnlessMemory t.asking ((more : Bytes) → demand (record x { asked = s.asked }) more ≡ take served s.asked ++ demand t more)) bare
     (subst (λ (l : List Asked). UnlessMemory t.asking ((more : Bytes) → demand (record mid { asked = l }) more ≡ take served l ++ demand t more)) all goes))
+
+-- ---- an ask that is answered out of the log
+
+one_served : (answer : PartAnswer) → IsCount (served_by answer) (called_of answer) 1
+one_served (part.Given p) = refl
+one_served part.LogFault = omega arith
+one_served part.Stopped = omega arith
+one_served part.Memory = omega arith
+
+if_own : {A : Type 0} (n : ℕ) (xs : List A) → (if n == n then xs else []) ++ [] ≡ xs
+if_own n xs = by (n == n) (same_test n)
+  where
+    by : (b : Bool) → b ≡ true → (if b then xs else []) ++ [] ≡ xs
+    by true is = append-nil xs
+    by false is = absurd (cc)
+
+on_wants : (asking : Asking) (s t : SessionState) → s.taking ≡ None → s.out ≡ [] → AsksOn asking s t → WantsTake t
+on_wants Open s t none bare is = (ap (λ (x : SessionState). x.taking) is.1 ∙ none, ap (λ (x : SessionState). x.out) is.1 ∙ bare)
+on_wants Breaking s t none bare is = (ap (λ (x : SessionState). x.taking) is.0 ∙ none, ap (λ (x : SessionState). x.out) is.0 ∙ bare)
+on_wants (Ended end) s t none bare is = (ap (λ (x : SessionState). x.taking) is ∙ none, ap (λ (x : SessionState). x.out) is ∙ bare)
+
+module _ (told : Option ℕ) (m : ℕ) (timely : IsTold told m) (k k' : Knows) (s mid : SessionState) (ask : Ask) (answer : PartAnswer) (bytes : Bytes)
+    (wants : WantsTurn s) (is : s.asked ≡ asks_of ask) (adds : Adds event.Rewrite (outcome.Answered (called_of answer)) k k')
+    (answered : Answered (record s { asked = []; is_fenced = mid.is_fenced }) mid s.asked (served_by answer) (called_of answer))
+    (fenced : mid.is_fenced ≡ (s.is_fenced || list_any (sets_channel s.number) (take (served_by answer) s.asked)))
+    (goes : UnlessMemory mid.asking ((more : Bytes) → demand s more ≡ take (served_by answer) s.asked ++ demand mid more)) where
+  abbrev feed : Feed
+  feed = record { knows = k'; ask = ask; answer = answer; bytes = bytes }
+
+  abbrev step : List Step
+  step = Fed s.number m ask answer bytes ∷ []
+
+  abbrev bare : SessionState
+  bare = record s { asked = []; is_fenced = mid.is_fenced }
+
+  count : IsCount (served_by answer) (called_of answer) (length s.asked)
+  count = subst (λ (l : List Asked). IsCount (served_by answer) (called_of answer) (length l)) (sym is) (one_served answer)
+
+  fed_calls : calls_of s.number step ≡ turn_calls m s.asked (served_by answer) (called_of answer)
+  fed_calls = if_own s.number (turn_calls m (asks_of ask) (served_by answer) (called_of answer))
+      ∙ ap (λ (l : List Asked). turn_calls m l (served_by answer) (called_of answer)) (sym is)
+
+  fed_takes : takes_of s.number step ≡ parts_of answer bytes
+  fed_takes = if_own s.number (parts_of answer bytes)
+
+  half_asked : (calls : List Call) (came : LinkState) → AskedSoFar told calls came s → AskedSoFar told (calls ++ calls_of s.number step) came mid
+  half_asked calls came x = subst (λ (l : List Call). AskedSoFar told (calls ++ l) came mid) (sym fed_calls)
+      (asked_answered told calls came bare mid s.asked (served_by answer) m timely wants.0
+      (asked_fenced told calls came s mid.is_fenced x) (called_of answer) count refl answered goes)
+
+  half_written : (takes : List Outcome) (came : LinkState) → WrittenSoFar takes came s → WrittenSoFar takes came mid
+  half_written takes came x = written_answered takes came bare (written_bare takes came s mid.is_fenced x) mid s.asked (served_by answer) (called_of answer) answered
+
+  half_ends : EndsBy ⊥ bare mid
+  half_ends = answer_ends bare mid s.asked (served_by answer) (called_of answer) answered
+
+  same : (mid.number ≡ s.number) × (mid.line.caller ≡ s.line.caller)
+  same = answered_same bare mid s.asked (served_by answer) (called_of answer) answered
+
+  own_gains : Gains k k' (step_acts (Fed s.number m ask answer bytes))
+  own_gains = gains_one k k' (event.Rewrite, outcome.Answered (called_of answer)) (made event.Rewrite (outcome.Answered (called_of answer)) k k' adds)
+
+  module _ (t : SessionState) (number : t.number ≡ mid.number) (caller : t.line.caller ≡ mid.line.caller) (ends : EndsBy ⊥ mid t)
+      (still : t.is_fenced ≡ mid.is_fenced)
+      (asked : (calls : List Call) → (came : LinkState) → AskedSoFar told calls came mid → AskedSoFar told calls came t)
+      (written : (takes : List Outcome) → (came : LinkState) → WrittenSoFar takes came mid → WrittenSoFar (takes ++ parts_of answer bytes) came t) where
+    fed_so : StepsSession told ⊥ (feed ∷ []) k k' s t
+    fed_so = record {
+      steps = step;
+      own = (refl, tt);
+      gains = own_gains;
+      timely = (timely, tt);
+      fed = (k', own_gains, [], refl, (refl, refl));
+      number = number ∙ same.0;
+      caller = caller ∙ same.1;
+      asked = λ calls came x. asked (calls ++ calls_of s.number step) came (half_asked calls came x);
+      ends = (λ e. further (ends.0 e) half_ends.0, λ e. further (ends.1 e) half_ends.1);
+      fenced = still ∙ fenced ∙ ap (λ (b : Bool). s.is_fenced || b)
+          (sym (ap (has_set s.number) fed_calls ∙ set_turn s.number m (served_by answer) (called_of answer) s.asked));
+      fence_ends = λ n e. absurd (cc);
+      written = λ takes came x. subst (λ (l : List Outcome). WrittenSoFar (takes ++ l) came t) (sym fed_takes) (written takes came (half_written takes came x));
+    }
+
+  -- nothing was given
+  pub fed_none : parts_of answer bytes ≡ [] → StepsSession told ⊥ (feed ∷ []) k k' s mid
+  fed_none none = fed_so mid refl refl (ends_same ⊥ mid mid refl refl) refl (λ calls came x. x)
+      (λ takes came x. subst (λ (l : List Outcome). WrittenSoFar l came mid) (sym (ap (λ (l : List Outcome). takes ++ l) none ∙ append-nil takes)) x)
+
+  -- a part was given, as one frame
+  pub fed_part : (t : SessionState) (o : Outcome) → parts_of answer bytes ≡ o ∷ [] → WantsTake mid → Takes mid t o → StepsSession told ⊥ (feed ∷ []) k k' s t
+  fed_part t o one wants_take takes = fed_so t (take_number mid t o takes) (take_caller mid t o takes) (take_ends mid t o takes) (take_fenced mid t o takes)
+      (λ calls came x. asked_taken told calls came mid t x o takes)
+      (λ before came x. subst (λ (l : List Outcome). WrittenSoFar (before ++ l) came t) (sym one) (written_taken before came mid x t o wants_take takes))
+
+-- a session that was given its answers may be given a part
+pub part_wants : (s mid : SessionState) (b : Bool) (asked : List Asked) (served : ℕ) → s.taking ≡ None → s.out ≡ []
+    → Answered (record s { is_fenced = b }) mid asked served called.Ok → WantsTake mid
+part_wants s mid b asked served none bare answered = on_wants s.asking (record s { is_fenced = b }) mid none bare answered
+
+no_part : (answer : PartAnswer) (bytes : Bytes) → ((p : Part) → answer ≡ part.Given p → ⊥) → parts_of answer bytes ≡ []
+no_part (part.Given p) bytes none = absurd (none p refl)
+no_part part.LogFault bytes none = refl
+no_part part.Stopped bytes none = refl
+no_part part.Memory bytes none = refl
+
+only_one : (asked : List Asked) (a : Asked) (words : List Bytes) → length asked ≡ 1 → slice_get asked 0 ≡ Some a → a ≡ asks_for.Words words
+    → asked ≡ asks_for.Words words ∷ []
+only_one [] a words one at is = absurd (omega (arith, one))
+only_one (b ∷ []) a words one at is = let same : b ≡ a = cc at in ap (λ (x : Asked). x ∷ []) (same ∙ is)
+only_one (b ∷ d ∷ asked) a words one at is = absurd (omega (arith, one))
+
+-- one request of these words is an ask, where they are one
+pub only_ask : (r : Option Ask) (asked : List Asked) (a : Asked) (words : List Bytes) → length asked ≡ 1 → slice_get asked 0 ≡ Some a
+    → a ≡ asks_for.Words words → IfSome r (λ ask. IsAskOf ask words) → IfSome r (λ ask. asked ≡ asks_of ask)
+only_ask None asked a words one at is made = tt
+only_ask (Some ask) asked a words one at is made =
+    only_one asked a words one at is ∙ ap (λ (w : List Bytes). asks_for.Words w ∷ []) made.1
+
+-- the same, of a session whose requests are in hand
+module _ (By : Feed → Type 0) (told : Option ℕ) (m : ℕ) (timely : IsTold told m) (k k' : Knows) (x mid : SessionState) (asked : List Asked) (ask : Ask)
+    (answer : PartAnswer) (bytes : Bytes) (served : ℕ) (end : CallOutcome) (by : By (record { knows = k'; ask = ask; answer = answer; bytes = bytes }))
+    (moved : x.asked ≡ []) (wants : WantsTurn (record x { asked = asked })) (is : asked ≡ asks_of ask)
+    (adds : Adds event.Rewrite (outcome.Answered (called_of answer)) k k') (serves : served ≡ served_by answer) (ends : end ≡ called_of answer)
+    (answered : Answered (record x { is_fenced = mid.is_fenced }) mid asked served end)
+    (fenced : mid.is_fenced ≡ (x.is_fenced || list_any (sets_channel x.number) (take served asked)))
+    (goes : UnlessMemory mid.asking ((more : Bytes) → demand (record x { asked = asked }) more ≡ take served asked ++ demand mid more)) where
+  abbrev whole : SessionState
+  whole = record x { asked = asked }
+
+  answered_so : Answered (record x { asked = []; is_fenced = mid.is_fenced }) mid asked (served_by answer) (called_of answer)
+  answered_so = subst (λ (l : List Asked). Answered (record x { asked = l; is_fenced = mid.is_fenced }) mid asked (served_by answer) (called_of answer)) moved
+      (subst (λ (n : ℕ). Answered (record x { is_fenced = mid.is_fenced }) mid asked n (called_of answer)) serves
+      (subst (λ (e : CallOutcome). Answered (record x { is_fenced = mid.is_fenced }) mid asked served e) ends answered))
+
+  fenced_so : mid.is_fenced ≡ (x.is_fenced || list_any (sets_channel x.number) (take (served_by answer) asked))
+  fenced_so = subst (λ (n : ℕ). mid.is_fenced ≡ (x.is_fenced || list_any (sets_channel x.number) (take n asked))) serves fenced
+
+  goes_so : UnlessMemory mid.asking ((more : Bytes) → demand whole more ≡ take (served_by answer) asked ++ demand mid more)
+  goes_so = subst (λ (n : ℕ). UnlessMemory mid.asking ((more : Bytes) → demand whole more ≡ take n asked ++ demand mid more)) serves goes
+
+  pub feeds_none : ((p : Part) → answer ≡ part.Given p → ⊥) → FeedsOn By told k k' whole mid
+  feeds_none none = (
+    _,
+    (by, tt),
+    fed_none told m timely k k' whole mid ask answer bytes wants is adds answered_so fenced_so goes_so (no_part answer bytes none),
+  )
+
+  pub feeds_part : (t : SessionState) (p : Part) → answer ≡ part.Given p → Takes mid t (outcome.Given (part_text p bytes ∷ [])) → FeedsOn By told k k' whole t
+  feeds_part t p given takes = (
+    _,
+    (by, tt),
+    fed_part told m timely k k' whole mid ask answer bytes wants is adds answered_so fenced_so goes_so t (outcome.Given (part_text p bytes ∷ []))
+        (ap (λ (a : PartAnswer). parts_of a bytes) given)
+        (part_wants x mid mid.is_fenced asked served wants.1 wants.3
+        (subst (λ (e : CallOutcome). Answered (record x { is_fenced = mid.is_fenced }) mid asked served e) (ends ∙ ap called_of given) answered))
+        takes,
+  )

@@ -19,10 +19,11 @@ use Rattle.session_run.specs.SoFar.{AskedSoFar, WrittenSoFar}
 use Rattle.serve_run.specs.declared.tends.ServeEnd.{ServeEnd}
 use Rattle.serve_run.specs.Tends.{IsTold, shrink_end, unfence_acts}
 use Rattle.serve_run.specs.Steps.{Step, Removed, Unfenced, Unended, Unasked, step_acts, steps_acts, calls_of, takes_of, ends_in, ends_fence, IsTimely}
+use Rattle.serve_run.specs.Feeds.{feeds_at}
 use Rattle.serve_run.specs.SessionSteps.{IsOf, StepsOn, RemovesSession, RemovesTo, Unfences, UnfencesOn}
 use Rattle.serve_run.proofs.Fencing.{same_number}
 use Rattle.serve_run.proofs.Shrinking.{one_call, one_gain}
-use Rattle.serve_run.proofs.Stepping.{same_test}
+use Rattle.serve_run.proofs.Stepping.{same_test, fed_more, fed_one}
 
 -- ---- what is asked by a session of the server's own
 
@@ -67,6 +68,7 @@ removed_alone told k k' x adds = record {
   own = (refl, tt);
   gains = removed_gains k k' x adds;
   timely = (tt, tt);
+  fed = fed_one k k' (Removed x.number) refl (removed_gains k k' x adds);
   number = refl;
   caller = refl;
   asked = λ calls came a. subst (λ (l : List Call). AskedSoFar told l came x) (sym (append-nil calls)) a;
@@ -90,7 +92,7 @@ module _ (told : Option ℕ) (k k' : Knows) (x : SessionState) (is : x.is_fenced
   -- and a step behind that, which asks for the end of its live fence
   module _ (step : Step) (own : IsOf x.number step) (timely : IsTimely told step) (gains : Gains k' new (step_acts step ++ []))
       (uncalled : calls_of x.number (Removed x.number ∷ step ∷ []) ≡ []) (untaken : takes_of x.number (Removed x.number ∷ step ∷ []) ≡ [])
-      (ends : (n : ℕ) → ends_in n step ≡ (x.number == n)) where
+      (ends : (n : ℕ) → ends_in n step ≡ (x.number == n)) (unfed : feeds_at new step ≡ []) where
     ends_here : (n : ℕ) → ends_fence n (Removed x.number ∷ step ∷ []) ≡ (x.number == n)
     ends_here n = or-false (ends_in n step) ∙ ends n
 
@@ -104,6 +106,8 @@ module _ (told : Option ℕ) (k k' : Knows) (x : SessionState) (is : x.is_fenced
         own = (refl, (own, tt));
         gains = gains_more k k' new (steps_acts (Removed x.number ∷ [])) (step_acts step ++ []) (removed_gains k k' x adds) gains;
         timely = (tt, (timely, tt));
+        fed = fed_more [] [] k k' new (Removed x.number ∷ []) (step ∷ []) (fed_one k k' (Removed x.number) refl (removed_gains k k' x adds))
+            (fed_one k' new step unfed (subst (λ (l : List Act). Gains k' new l) (append-nil (step_acts step)) gains));
         number = refl;
         caller = refl;
         asked = λ calls came a. subst (λ (l : List Call). AskedSoFar told (calls ++ l) came x) (sym uncalled)
@@ -122,9 +126,9 @@ module _ (told : Option ℕ) (k k' : Knows) (x : SessionState) (is : x.is_fenced
   more_nil acts g = subst (λ (l : List Act). Gains k' new l) (sym (append-nil acts)) g
 
   removed_on : UnfencesOn told x.number k' new → RemovesSession told k new x
-  removed_on (inl same) = removed_fenced (Unasked x.number) refl tt same refl refl (λ n. refl)
-  removed_on (inr (inl u)) = removed_fenced (Unended x.number u.0) refl tt (more_nil ((event.Enter, u.0) ∷ []) u.1) refl refl (λ n. refl)
-  removed_on (inr (inr u)) = removed_fenced (Unfenced x.number u.0 u.1 u.2) refl u.3 (more_nil (unfence_acts x.number u.0 u.1 u.2) u.4) refl refl (λ n. refl)
+  removed_on (inl same) = removed_fenced (Unasked x.number) refl tt same refl refl (λ n. refl) refl
+  removed_on (inr (inl u)) = removed_fenced (Unended x.number u.0) refl tt (more_nil ((event.Enter, u.0) ∷ []) u.1) refl refl (λ n. refl) refl
+  removed_on (inr (inr u)) = removed_fenced (Unfenced x.number u.0 u.1 u.2) refl u.3 (more_nil (unfence_acts x.number u.0 u.1 u.2) u.4) refl refl (λ n. refl) refl
 
   pub removes_fenced : (o : Option ServeEnd) → Unfences told x.number k' new o → RemovesTo told k new x o
   removes_fenced None u = removed_on u

@@ -1,6 +1,6 @@
 -- How parts of a loop's round leave it, and what ends it.
 use Rattle.std.specs.Prelude.{◌≡◌, ◌⊎◌, ◌≤◌, ◌++◌, ◌∷◌, ℕ, Bool, true, false, List, [], Option, Some, None, Result, Ok, Err, option_map}
-use Rattle.std.specs.List.{slice_get}
+use Rattle.std.specs.List.{slice_get, AllByRecursion}
 use Rattle.outside.specs.Causes.{Rose}
 use Rattle.world_model.specs.Seats.{Knows}
 use Rattle.outside.specs.Links.{LinkState}
@@ -13,6 +13,7 @@ use Rattle.serve_run.specs.declared.joins.Unseated.{Unseated}
 use Rattle.serve_run.specs.declared.joins.Unseated.TheVariants as unseated
 use Rattle.serve_run.specs.declared.terms.Terms.{Terms}
 use Rattle.serve_run.specs.declared.tendings.Tending.{Tending}
+use Rattle.serve_run.specs.Feeds.{Feed}
 use Rattle.serve_run.specs.Tends.{TendsLast}
 use Rattle.serve_run.specs.Loops.{Around, IsLastCaller}
 use Rattle.serve_run.specs.LoopStates.{LoopState, loop_state, Holds, NoneOpen}
@@ -62,24 +63,33 @@ EndsFrom told terms t end.Spent old s mid = TendsLast told terms t mid s.around.
 EndsFrom told terms t end.Memory old s mid = TendsLast told terms t mid s.around.knows end.Memory ⊎ (mid ≡ s.around.knows)
 
 -- what a loop kept it keeps, or it ends so
-abbrev pub Leaves : Option ℕ → Terms → Around → Tending → LoopState → Option ServeEnd → Type 0
-Leaves told terms old t s None = Holds told terms old t s
-Leaves told terms old t s (Some e) = (mid : Knows) × (last : Tending) × Holds told terms old last (at_end e mid s)
+abbrev pub Leaves : Option ℕ → Terms → Around → Tending → List Feed → LoopState → Option ServeEnd → Type 0
+Leaves told terms old t feeds s None = Holds told terms old t feeds s
+Leaves told terms old t feeds s (Some e) = (mid : Knows) × (last : Tending) × Holds told terms old last feeds (at_end e mid s)
     × EndsFrom told terms last e old s mid
 
 -- the same, from a state on, by steps that may tend
 abbrev pub RoundTurn : Option ℕ → Terms → Tending → Tending → LoopState → LoopState → Option ServeEnd → Type 0
-RoundTurn told terms t t' s s' result = (old : Around) → Holds told terms old t s → Leaves told terms old t' s' result
+RoundTurn told terms t t' s s' result = (old : Around) → (feeds : List Feed) → Holds told terms old t feeds s
+    → Leaves told terms old t' feeds s' result
 
--- by steps that don't
+-- the same, where asks may have been answered out of the log, each so
+abbrev pub LeavesBy : (Feed → Type 0) → Option ℕ → Terms → Around → Tending → LoopState → Option ServeEnd → Type 0
+LeavesBy By told terms old t s result = (feeds : List Feed) × AllByRecursion By feeds × Leaves told terms old t feeds s result
+
+abbrev pub FeedsTurn : (Feed → Type 0) → Option ℕ → Terms → Tending → Tending → LoopState → LoopState → Option ServeEnd → Type 0
+FeedsTurn By told terms t t' s s' result = (old : Around) → (feeds : List Feed) → AllByRecursion By feeds → Holds told terms old t feeds s
+    → LeavesBy By told terms old t' s' result
+
+-- by steps that don't tend
 abbrev pub LoopTurn : Option ℕ → Terms → LoopState → LoopState → Option ServeEnd → Type 0
 LoopTurn told terms s s' result = (t : Tending) → RoundTurn told terms t t s s' result
 
 -- the seat's own entries were made that were due
 abbrev pub KeepsAside : Option ℕ → Terms → Tending → Tending → Knows → Knows → Type 0
 KeepsAside told terms t t' k k' = (places : List (Option SessionState)) → (d : DoorState) → (w : WaitState) → (joined starved : ℕ)
-    → (is_over goes_on : Bool) → (old : Around) → Holds told terms old t (loop_state k d w places joined starved is_over goes_on)
-    → Holds told terms old t' (loop_state k' d w places joined starved is_over goes_on)
+    → (is_over goes_on : Bool) → (old : Around) → (feeds : List Feed) → Holds told terms old t feeds (loop_state k d w places joined starved is_over goes_on)
+    → Holds told terms old t' feeds (loop_state k' d w places joined starved is_over goes_on)
 
 -- the same, or those behind them brought the end
 abbrev pub TendsTable : Option ℕ → Terms → Tending → Tending → Knows → Knows → Option ServeEnd → Type 0

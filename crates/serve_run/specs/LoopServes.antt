@@ -3,6 +3,9 @@ use Rattle.std.specs.Prelude.{◌≡◌, ◌⊎◌, ◌≤◌, ℕ, Option, Some
 use Rattle.std.specs.Io.KnownBytes.{Appends}
 use mathlib.Core.List.{IsPrefix}
 use Rattle.byte_text.specs.Names.{Bytes}
+use Rattle.world_model.specs.Seats.{Knows}
+use Rattle.repl_stream.specs.declared.asks.Ask.{Ask}
+use Rattle.repl_stream.specs.declared.parts.Part.{Part}
 use Rattle.outside.specs.Causes.{Rose}
 use Rattle.outside.specs.Doors.{OpenedAt}
 use Rattle.serve_run.specs.declared.tends.ServeEnd.{ServeEnd}
@@ -14,7 +17,7 @@ use Rattle.serve_run.specs.Words.{Serve}
 
 -- what the words ask of the loop
 abbrev pub terms_of : Serve → Terms
-terms_of s = record { limit = s.limit; idle = s.idle; shrink_at = s.shrink_at; until_end = s.until_end }
+terms_of s = record { limit = s.limit; idle = s.idle; shrink_at = s.shrink_at; followers = s.followers; until_end = s.until_end }
 
 -- the same, with the door opened so
 abbrev pub with_door : OpenedAt → Around → Around
@@ -46,20 +49,21 @@ pub record IsUntoldLoop (at : OpenedAt) (old new : Around) (held held' : Option 
   pub part : (part : Bytes) × IsPrefix part (listening_line at.addr) × Appends held held' part
 
 -- the door was opened, that was said, and links were served up to an end
-pub record IsServedLoop (told : Option ℕ) (s : Serve) (old new : Around) (held held' : Option Bytes) (status : ℕ) : Type 0 where
+pub record IsServedLoop (told : Option ℕ) (answers : Knows → Ask → Part → Bytes → Type 0) (s : Serve) (old new : Around)
+    (held held' : Option Bytes) (status : ℕ) : Type 0 where
   pub between : Option Bytes
   pub listening : Appends held between (listening_line s.port.addr)
   pub joined : ℕ
   pub starved : ℕ
   pub end : ServeEnd
-  pub serves : ServesReady told (terms_of s) (with_door s.port old) new joined starved end
+  pub serves : ServesReady told answers (terms_of s) (with_door s.port old) new joined starved end
   pub finishes : Finishes end joined starved between held' status
 
 -- what the words ask for was done, as far as this says
-abbrev pub ServesLoop : Option ℕ → Serve → Around → Around → Option Bytes → Option Bytes → ℕ → Type 0
-ServesLoop told s old new held held' status =
+abbrev pub ServesLoop : Option ℕ → (Knows → Ask → Part → Bytes → Type 0) → Serve → Around → Around → Option Bytes → Option Bytes → ℕ → Type 0
+ServesLoop told answers s old new held held' status =
     IsUnbegunLoop old new held held' status
     ⊎ (IsUnopenedLoop old new held held' status
     ⊎ (IsUnwatchedLoop s.port old new held held' status
     ⊎ (IsUntoldLoop s.port old new held held' status
-    ⊎ IsServedLoop told s old new held held' status)))
+    ⊎ IsServedLoop told answers s old new held held' status)))

@@ -1,6 +1,6 @@
 -- What a loop keeps from step to step.
 use Rattle.std.specs.Prelude.{◌≡◌, ◌⊎◌, ◌==◌, ◌≤◌, ◌+◌, ℕ, Bool, true, false, List, [], ◌∷◌, ◌++◌, Option, Some, None, option_map, min}
-use Rattle.std.specs.List.{slice_get}
+use Rattle.std.specs.List.{slice_get, AllByRecursion}
 use Rattle.outside.specs.Causes.{Rose, most_count}
 use Rattle.world_model.specs.declared.events.Outcome.TheVariants as outcome
 use Rattle.world_model.specs.Seats.{Knows}
@@ -16,6 +16,7 @@ use Rattle.serve_run.specs.declared.tends.ServeEnd.{ServeEnd}
 use Rattle.serve_run.specs.declared.tends.ServeEnd.TheVariants as end
 use Rattle.serve_run.specs.declared.tendings.Tending.{Tending}
 use Rattle.serve_run.specs.Tends.{UnfencesLast}
+use Rattle.serve_run.specs.Feeds.{Feed, AreFed}
 use Rattle.serve_run.specs.Follows.{tending_from, AllFollow}
 use Rattle.serve_run.specs.Loops.{Around, around}
 use Rattle.serve_run.specs.Pacing.{untended}
@@ -80,11 +81,12 @@ times_open c (place ∷ places) = time_at c place + times_open c places
 abbrev pub NeverJoined : ℕ → List Step → Type 0
 NeverJoined n steps = (caller : ℕ) → IsAmong (Joined caller (outcome.Entered n)) steps → ⊥
 
--- what the loop keeps, from where it began on; and this is what its tends told so far
-pub record Holds (told : Option ℕ) (terms : Terms) (old : Around) (t : Tending) (s : LoopState) : Type 0 where
+-- what the loop keeps, from where it began on; this is what its tends told so far, and these are the asks that were answered out of the log
+pub record Holds (told : Option ℕ) (terms : Terms) (old : Around) (t : Tending) (feeds : List Feed) (s : LoopState) : Type 0 where
   pub steps : List Step
   pub gains : Gains old.knows s.around.knows (steps_acts steps)
   pub timely : AreTimely told steps
+  pub fed : AreFed feeds old.knows s.around.knows steps
   pub tends : tending_from untended steps ≡ t
   pub follow : AllFollow terms untended steps
   pub callers : callers_of steps ≡ numbered old.door.links s.joined
@@ -113,14 +115,21 @@ pub record Holds (told : Option ℕ) (terms : Terms) (old : Around) (t : Tending
 
 -- whatever the loop began with: what it kept, it keeps
 abbrev pub Keeps : Option ℕ → Terms → LoopState → LoopState → Type 0
-Keeps told terms s s' = (old : Around) → (t : Tending) → Holds told terms old t s → Holds told terms old t s'
+Keeps told terms s s' = (old : Around) → (t : Tending) → (feeds : List Feed) → Holds told terms old t feeds s → Holds told terms old t feeds s'
 
 -- sessions of the table went on, and all else is as it was
 abbrev pub KeepsTable : Option ℕ → Terms → Knows → Knows → List (Option SessionState) → List (Option SessionState) → Type 0
 KeepsTable told terms k k' places places' = (d : DoorState) → (w : WaitState) → (joined starved : ℕ) → (is_over goes_on : Bool)
     → Keeps told terms (loop_state k d w places joined starved is_over goes_on) (loop_state k' d w places' joined starved is_over goes_on)
 
--- the same, and the one that waits was given links to shut; the loop goes on only where it could tell each
+-- the same, but that asks of them were answered out of the log, each so
+abbrev pub FeedsTable : (Feed → Type 0) → Option ℕ → Terms → Knows → Knows → List (Option SessionState) → List (Option SessionState) → Type 0
+FeedsTable By told terms k k' places places' = (more : List Feed) × AllByRecursion By more × ((d : DoorState) → (w : WaitState) → (joined starved : ℕ)
+    → (is_over goes_on : Bool) → (old : Around) → (t : Tending) → (feeds : List Feed)
+    → Holds told terms old t feeds (loop_state k d w places joined starved is_over goes_on)
+    → Holds told terms old t (feeds ++ more) (loop_state k' d w places' joined starved is_over goes_on))
+
+-- sessions of the table went on, and the one that waits was given links to shut; the loop goes on only where it could tell each
 abbrev pub KeepsShut : Option ℕ → Terms → Knows → Knows → WaitState → WaitState → List (Option SessionState) → List (Option SessionState) → Bool → Type 0
 KeepsShut told terms k k' w w' places places' is_told = (d : DoorState) → (joined starved : ℕ) → (is_over : Bool)
     → Keeps told terms (loop_state k d w places joined starved is_over true) (loop_state k' d w' places' joined starved is_over is_told)
@@ -131,6 +140,12 @@ abbrev pub KeepsShutTo : Option ℕ → Terms → Knows → Knows → WaitState 
 KeepsShutTo told terms k k' w w' places places' None = KeepsShut told terms k k' w w' places places' true
 KeepsShutTo told terms k k' w w' places places' (Some e) = (mid : Knows) × KeepsShut told terms k mid w w' places places' false
     × (((mid ≡ k') × (e ≡ end.Memory)) ⊎ UnfencesLast told mid k' e)
+
+-- before that sessions of the table went on, and asks of them were answered out of the log, each so
+abbrev pub FeedsShutTo : (Feed → Type 0) → Option ℕ → Terms → Knows → Knows → WaitState → WaitState → List (Option SessionState)
+    → List (Option SessionState) → Option ServeEnd → Type 0
+FeedsShutTo By told terms k k' w w' places places' end = (mid : Knows) × (between : List (Option SessionState))
+    × FeedsTable By told terms k mid places between × KeepsShutTo told terms mid k' w w' between places' end
 
 -- the server ended sessions of the table by itself, and all else is as it was
 abbrev pub KeepsEarly : Option ℕ → Terms → Knows → WaitState → List (Option SessionState) → List (Option SessionState) → Type 0

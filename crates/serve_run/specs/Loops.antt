@@ -1,7 +1,11 @@
 -- What a loop that serves links over readiness does.
+use Rattle.std.specs.List.{AllByRecursion}
 use Rattle.std.specs.Prelude.{◌≡◌, ◌⊎◌, ◌≤◌, ℕ, Bool, true, List, [], ◌++◌, Option, option_map}
 use Rattle.outside.specs.Causes.{Rose}
 use Rattle.world_model.specs.Seats.{Knows, Act}
+use Rattle.byte_text.specs.Names.{Bytes}
+use Rattle.repl_stream.specs.declared.asks.Ask.{Ask}
+use Rattle.repl_stream.specs.declared.parts.Part.{Part}
 use Rattle.outside.specs.Doors.{DoorState}
 use Rattle.outside.specs.Waits.{WaitState}
 use Rattle.session_run.specs.Gains.{Gains}
@@ -9,6 +13,7 @@ use Rattle.serve_run.specs.declared.tends.ServeEnd.{ServeEnd}
 use Rattle.serve_run.specs.declared.tends.ServeEnd.TheVariants as end
 use Rattle.serve_run.specs.declared.terms.Terms.{Terms}
 use Rattle.serve_run.specs.declared.tendings.Tending.{Tending}
+use Rattle.serve_run.specs.Feeds.{Feed, AreFed, FedBy}
 use Rattle.serve_run.specs.Follows.{tending_from, AllFollow}
 use Rattle.serve_run.specs.Pacing.{untended}
 use Rattle.serve_run.specs.Tends.{IsLast}
@@ -46,12 +51,17 @@ LoopEndsBy end.Memory told terms t last old new joined runs = IsLast told terms 
 -- link, as each was then. For each link, its calls, its takes and what it was written are as its run says. Where the loop ends in order, no
 -- session of a link is left in the hall; and just for those whose calls set the channel of their live fence its deletion was asked for behind
 -- that, as far as the hall let it be asked. By itself the server asks that the log be rewritten only where the terms allow that and the
--- steps told that it has grown; and it goes on while they want memory, but not for long.
-pub record ServesReady (told : Option ℕ) (terms : Terms) (old new : Around) (joined starved : ℕ) (why : ServeEnd) : Type 0 where
+-- steps told that it has grown; and it goes on while they want memory, but not for long. Only where the terms allow followers are asks answered
+-- out of the log, and each part is one that answers its ask, by what the hall tells of what the seat had seen then.
+pub record ServesReady (told : Option ℕ) (answers : Knows → Ask → Part → Bytes → Type 0) (terms : Terms) (old new : Around)
+    (joined starved : ℕ) (why : ServeEnd) : Type 0 where
   pub steps : List Step
   pub last : List Act
   pub gains : Gains old.knows new.knows (steps_acts steps ++ last)
   pub timely : AreTimely told steps
+  pub feeds : List Feed
+  pub fed : (mid : Knows) × AreFed feeds old.knows mid steps × Gains mid new.knows last
+  pub fed_by : AllByRecursion (FedBy answers terms) feeds
   pub follow : AllFollow terms untended steps
   pub callers : callers_of steps ≡ numbered old.door.links joined
   pub door_links : new.door.links ≡ behind_callers old.door.links joined

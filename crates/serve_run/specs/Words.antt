@@ -12,25 +12,26 @@ use Rattle.outside.specs.declared.doors.Kinds.{Kinds}
 use Rattle.outside.specs.declared.doors.Kinds.TheVariants.{Plain, Web, Both}
 use Rattle.serve_run.specs.Options.{begins_with, flag_rule, needed_rule, option_rule, rows_taken}
 use Rattle.serve_run.specs.declared.words.ServeWords.{ServeWords}
-use Rattle.serve_run.specs.declared.words.TheConstants.{MOST_LINKS, MOST_IDLE, MOST_SHRINK_AT, SHRINK_AT}
+use Rattle.serve_run.specs.declared.words.TheConstants.{MOST_LINKS, MOST_IDLE, MOST_SHRINK_AT, SHRINK_AT, MOST_FOLLOWERS}
 
 -- Where to listen, and for whom; how many callers are served; behind how many seconds without a request a link is ended, or 0 for never; by how many per
--- cent the log grows until it is rewritten, or 0 for never; and whether the end of standard input asks for the end.
+-- cent the log grows until it is rewritten, or 0 for never; how many sessions may be followers at a time; and whether the end of standard input asks for the end.
 pub record Serve : Type 0 where
   pub port : OpenedAt
   pub limit : ℕ
   pub idle : ℕ
   pub shrink_at : ℕ
+  pub followers : ℕ
   pub until_end : Bool
 
 abbrev pub asked_of : ServeWords → Serve
-asked_of w = record { port = opened_at w.port; limit = w.limit; idle = w.idle; shrink_at = w.shrink_at; until_end = w.until_end }
+asked_of w = record { port = opened_at w.port; limit = w.limit; idle = w.idle; shrink_at = w.shrink_at; followers = w.followers; until_end = w.until_end }
 
--- `NAME ADDR [--sessions N] [--idle SECONDS] [--shrink-at PERCENT] [--until-stdin-ends] [--origin LIST]`
+-- `NAME ADDR [--sessions N] [--idle SECONDS] [--shrink-at PERCENT] [--followers N] [--until-stdin-ends] [--origin LIST]`
 unfoldable pub link_app : Bytes → App
-link_app name = with_rule (with_rule (with_rule (with_rule (with_rule (with_rule (new_app name)
+link_app name = with_rule (with_rule (with_rule (with_rule (with_rule (with_rule (with_rule (new_app name)
     (needed_rule (codes "addr"))) (option_rule (codes "sessions"))) (option_rule (codes "idle"))) (option_rule (codes "shrink-at")))
-    (flag_rule (codes "until-stdin-ends"))) (option_rule (codes "origin"))
+    (option_rule (codes "followers"))) (flag_rule (codes "until-stdin-ends"))) (option_rule (codes "origin"))
 
 -- `serve ADDR [..] [--ws]`, and `ws ADDR [..]`
 unfoldable pub serve_app : App
@@ -62,13 +63,16 @@ kinds_of rows = if is_given (first_of (codes "ws") rows) then Both else Plain
 
 -- what was found, where each number is one
 abbrev pub serve_in : Kinds → List Row → Option Serve
-serve_in kinds rows = option_and_then (λ addr. option_and_then (λ limit. option_and_then (λ idle. option_and_then (λ shrink_at. Some (record {
-  port = record { addr = addr; kinds = kinds; origins = origins_of (first_of (codes "origin") rows) };
-  limit = limit;
-  idle = idle;
-  shrink_at = shrink_at;
-  until_end = is_given (first_of (codes "until-stdin-ends") rows);
-}))
+serve_in kinds rows = option_and_then (λ addr. option_and_then (λ limit. option_and_then (λ idle. option_and_then (λ shrink_at.
+    option_and_then (λ followers. Some (record {
+      port = record { addr = addr; kinds = kinds; origins = origins_of (first_of (codes "origin") rows) };
+      limit = limit;
+      idle = idle;
+      shrink_at = shrink_at;
+      followers = followers;
+      until_end = is_given (first_of (codes "until-stdin-ends") rows);
+    }))
+    (number_of 0 MOST_FOLLOWERS 0 (first_of (codes "followers") rows)))
     (number_of 0 MOST_SHRINK_AT SHRINK_AT (first_of (codes "shrink-at") rows)))
     (number_of 1 MOST_IDLE 0 (first_of (codes "idle") rows)))
     (number_of 1 MOST_LINKS MOST_LINKS (first_of (codes "sessions") rows)))

@@ -6,10 +6,11 @@ ghost use Rattle.world_model.specs.Seats.{Knows};
 ghost use Rattle.outside.specs.Doors.{DoorState};
 ghost use Rattle.outside.specs.Waits.{Waits};
 ghost use Rattle.serve_run.specs.Tends.{IsTold};
+ghost use Rattle.serve_run.specs.Feeds.{FedBy};
 ghost use Rattle.serve_run.specs.Loops.{ServesReady, around};
-ghost use Rattle.serve_run.specs.LoopStates.{Keeps, KeepsShutTo, loop_state};
+ghost use Rattle.serve_run.specs.LoopStates.{Keeps, FeedsShutTo, loop_state};
 ghost use Rattle.serve_run.specs.declared.terms.Terms.{Terms};
-ghost use Rattle.serve_run.specs.LoopEnds.{RoundTurn, TendsTable, IsLastOf};
+ghost use Rattle.serve_run.specs.LoopEnds.{FeedsTurn, TendsTable, IsLastOf};
 ghost use Rattle.serve_run.specs.Pacing.{untended};
 
 use crate::early_ends::end_early;
@@ -22,6 +23,7 @@ use crate::tends::{ServeEnd, Served, tick_and_rewrite};
 use crate::terms::Terms;
 use byte_text::NoMemory;
 use outside::{Clock, Failed, Named, ReadyDoor, ReadyLink, WaitForLinks};
+use repl_stream::{FeedApi, PartBytes};
 use std::alloc::Global;
 use std::sync::Wait;
 use world_model::{ChangedSessions, Frames, HallApi};
@@ -33,13 +35,15 @@ const BLOCK: usize = 65_536;
 #[derive(Drop)]
 struct Work {
     block: Vec<u8>,
+    // The place for a part of the log, where followers are allowed.
+    part: Option<PartBytes>,
     frames: Frames,
     // When the next tick is due.
     pace: Pace,
 }
 
 impl Work {
-    fn new(alloc: Global) -> Result<Work, NoMemory>
+    fn new(alloc: Global, terms: Terms) -> Result<Work, NoMemory>
         ensures some { IfOk result (λ w. 0 < length w.block.items) }
         ensures bare { IfOk result (λ w. w.frames.list ≡ []) }
         ensures places { IfOk result (λ w. w.frames.places ≡ take_frames) }
@@ -48,9 +52,15 @@ impl Work {
         let Ok(block) = vec![in alloc; 0u8; BLOCK] else {
             return Err(NoMemory);
         };
+        let part = if terms.followers > 0 {
+            Some(PartBytes::new(alloc)?)
+        } else {
+            None
+        };
         let frames = Frames::new(alloc)?;
         Ok(Work {
             block,
+            part,
             frames,
             pace: Pace::new(),
         })
@@ -121,7 +131,7 @@ fn tend_if_due<H: HallApi, C: Clock, R: Wait>(
 
 // What a round does for those who are served: the calls of all, and then the takes of all, so that one commit serves the
 // round; and those who are through are removed, and their links shut. The end that this brings.
-fn serve_all<H: HallApi, D: ReadyDoor, W: WaitForLinks<D>, R: Wait>(
+fn serve_all<H: FeedApi, D: ReadyDoor, W: WaitForLinks<D>, R: Wait>(
     rt: &R,
     alloc: Global,
     hall: &H,
@@ -132,23 +142,28 @@ fn serve_all<H: HallApi, D: ReadyDoor, W: WaitForLinks<D>, R: Wait>(
     all: &mut AllMarks,
     work: &mut Work,
     touched: ChangedSessions,
+    terms: Terms,
 ) -> (Option<ServeEnd>, ChangedSessions)
 where
     D::Link: Drop,
-    requires seat { H.is_of hall.now seat.old }
+    requires seat { H.HallApi.is_of hall.now seat.old }
     requires moment { moment ≤ max_moment }
     requires some { 0 < length work.old.block.items }
     requires bare { work.old.frames.list ≡ [] }
     requires places { work.old.frames.places ≡ take_frames }
-    ensures seat { H.is_of hall.now seat.new }
+    ensures seat { H.HallApi.is_of hall.now seat.new }
     ensures some { 0 < length work.new.block.items }
     ensures bare { work.new.frames.list ≡ [] }
     ensures places { work.new.frames.places ≡ take_frames }
     ensures pace { work.new.pace ≡ work.old.pace }
-    ensures keeps { (told : Option ℕ) → (terms : Terms) → IsTold told moment → KeepsShutTo told terms (H.knows seat.old) (H.knows seat.new)
+    ensures keeps { (told : Option ℕ) → IsTold told moment
+        → FeedsShutTo (FedBy (H.answers hall.now) terms) told terms (H.HallApi.knows seat.old) (H.HallApi.knows seat.new)
         (W.shows wait.old) (W.shows wait.new) table.old.items table.new.items result.0 }
 {
-    let touched = all_in(rt, hall, seat, moment, table, all, &mut work.block, touched);
+    let (block, part) = (&mut work.block, &mut work.part);
+    let touched = all_in(
+        rt, hall, seat, moment, table, all, block, part, touched, terms,
+    );
     all_out(rt, hall, seat, table, all, &mut work.frames);
     shut_over(rt, alloc, hall, seat, moment, wait, table, all, touched)
 }
@@ -163,7 +178,7 @@ where
 }
 
 // One round. The end that it brings.
-fn round<H: HallApi, D: ReadyDoor, C: Clock, W: WaitForLinks<D>, R: Wait>(
+fn round<H: FeedApi, D: ReadyDoor, C: Clock, W: WaitForLinks<D>, R: Wait>(
     rt: &R,
     alloc: Global,
     hall: &H,
@@ -180,22 +195,22 @@ fn round<H: HallApi, D: ReadyDoor, C: Clock, W: WaitForLinks<D>, R: Wait>(
 ) -> (Option<ServeEnd>, ChangedSessions)
 where
     D::Link: Drop,
-    requires seat { H.is_of hall.now seat.old }
+    requires seat { H.HallApi.is_of hall.now seat.old }
     requires some { 0 < length work.old.block.items }
     requires bare { work.old.frames.list ≡ [] }
     requires places { work.old.frames.places ≡ take_frames }
     requires room { counts.old.joined ≤ terms.limit }
     requires few { counts.old.starved ≤ counts.old.joined }
-    ensures seat { H.is_of hall.now seat.new }
+    ensures seat { H.HallApi.is_of hall.now seat.new }
     ensures some { 0 < length work.new.block.items }
     ensures bare { work.new.frames.list ≡ [] }
     ensures places { work.new.frames.places ≡ take_frames }
     ensures room { counts.new.joined ≤ terms.limit }
     ensures few { counts.new.starved ≤ counts.new.joined }
-    ensures turn { RoundTurn (C.told clock.now) terms work.old.pace.tending work.new.pace.tending
-        (loop_state (H.knows seat.old) (D.shows door.old) (W.shows wait.old) table.old.items
+    ensures turn { FeedsTurn (FedBy (H.answers hall.now) terms) (C.told clock.now) terms work.old.pace.tending work.new.pace.tending
+        (loop_state (H.HallApi.knows seat.old) (D.shows door.old) (W.shows wait.old) table.old.items
         counts.old.joined counts.old.starved counts.old.is_over true)
-        (loop_state (H.knows seat.new) (D.shows door.new) (W.shows wait.new) table.new.items
+        (loop_state (H.HallApi.knows seat.new) (D.shows door.new) (W.shows wait.new) table.new.items
         counts.new.joined counts.new.starved counts.new.is_over true) result.0 }
 {
     if let Err(Failed) = look(wait, all, &mut work.pace) {
@@ -215,7 +230,7 @@ where
         return (Some(end), touched);
     }
     let (served, touched) = serve_all(
-        rt, alloc, hall, seat, moment, wait, table, all, work, touched,
+        rt, alloc, hall, seat, moment, wait, table, all, work, touched, terms,
     );
     if let Some(end) = served {
         return (Some(end), touched);
@@ -227,7 +242,7 @@ where
 }
 
 // Serves links up to an end, with what was made for it.
-fn serve_with<H: HallApi, D: ReadyDoor, C: Clock, W: WaitForLinks<D>, R: Wait>(
+fn serve_with<H: FeedApi, D: ReadyDoor, C: Clock, W: WaitForLinks<D>, R: Wait>(
     rt: &R,
     alloc: Global,
     hall: &H,
@@ -243,18 +258,18 @@ fn serve_with<H: HallApi, D: ReadyDoor, C: Clock, W: WaitForLinks<D>, R: Wait>(
 ) -> ServeEnd
 where
     D::Link: Drop,
-    requires seat { H.is_of hall.now seat.old }
+    requires seat { H.HallApi.is_of hall.now seat.old }
     requires some { 0 < length work.old.block.items }
     requires bare { work.old.frames.list ≡ [] }
     requires places { work.old.frames.places ≡ take_frames }
     requires room { counts.old.joined ≤ terms.limit }
     requires few { counts.old.starved ≤ counts.old.joined }
-    ensures seat { H.is_of hall.now seat.new }
+    ensures seat { H.HallApi.is_of hall.now seat.new }
     ensures room { counts.new.joined ≤ terms.limit }
-    ensures turn { RoundTurn (C.told clock.now) terms work.old.pace.tending work.new.pace.tending
-        (loop_state (H.knows seat.old) (D.shows door.old) (W.shows wait.old) table.old.items
+    ensures turn { FeedsTurn (FedBy (H.answers hall.now) terms) (C.told clock.now) terms work.old.pace.tending work.new.pace.tending
+        (loop_state (H.HallApi.knows seat.old) (D.shows door.old) (W.shows wait.old) table.old.items
         counts.old.joined counts.old.starved counts.old.is_over true)
-        (loop_state (H.knows seat.new) (D.shows door.new) (W.shows wait.new) table.new.items
+        (loop_state (H.HallApi.knows seat.new) (D.shows door.new) (W.shows wait.new) table.new.items
         counts.new.joined counts.new.starved counts.new.is_over true) (Some result) }
 {
     let mut touched = touched;
@@ -272,7 +287,7 @@ where
 }
 
 // Serves links up to an end, with an empty table.
-fn serve_up_to<H: HallApi, D: ReadyDoor, C: Clock, W: WaitForLinks<D>, R: Wait>(
+fn serve_up_to<H: FeedApi, D: ReadyDoor, C: Clock, W: WaitForLinks<D>, R: Wait>(
     rt: &R,
     alloc: Global,
     hall: &H,
@@ -286,21 +301,21 @@ fn serve_up_to<H: HallApi, D: ReadyDoor, C: Clock, W: WaitForLinks<D>, R: Wait>(
 ) -> ServeEnd
 where
     D::Link: Drop,
-    requires seat { H.is_of hall.now seat.old }
+    requires seat { H.HallApi.is_of hall.now seat.old }
     requires room { counts.old.joined ≤ terms.limit }
     requires few { counts.old.starved ≤ counts.old.joined }
-    ensures seat { H.is_of hall.now seat.new }
+    ensures seat { H.HallApi.is_of hall.now seat.new }
     ensures room { counts.new.joined ≤ terms.limit }
-    ensures turn { RoundTurn (C.told clock.now) terms untended untended
-        (loop_state (H.knows seat.old) (D.shows door.old) (W.shows wait.old) table.old.items
+    ensures turn { FeedsTurn (FedBy (H.answers hall.now) terms) (C.told clock.now) terms untended untended
+        (loop_state (H.HallApi.knows seat.old) (D.shows door.old) (W.shows wait.old) table.old.items
         counts.old.joined counts.old.starved counts.old.is_over true)
-        (loop_state (H.knows seat.new) (D.shows door.new) (W.shows wait.new) table.new.items
+        (loop_state (H.HallApi.knows seat.new) (D.shows door.new) (W.shows wait.new) table.new.items
         counts.new.joined counts.new.starved counts.new.is_over true) (Some result) }
 {
     let Ok(touched) = ChangedSessions::new(alloc) else {
         return ServeEnd::Memory;
     };
-    let Ok(mut work) = Work::new(alloc) else {
+    let Ok(mut work) = Work::new(alloc, terms) else {
         return ServeEnd::Memory;
     };
     serve_with(
@@ -330,7 +345,7 @@ where
 }
 
 /// Serves links over readiness, as the terms ask, and shuts them all.
-pub(crate) fn serve_loop<H: HallApi, D: ReadyDoor, C: Clock, W: WaitForLinks<D>, R: Wait>(
+pub(crate) fn serve_loop<H: FeedApi, D: ReadyDoor, C: Clock, W: WaitForLinks<D>, R: Wait>(
     rt: &R,
     alloc: Global,
     hall: &H,
@@ -342,11 +357,11 @@ pub(crate) fn serve_loop<H: HallApi, D: ReadyDoor, C: Clock, W: WaitForLinks<D>,
 ) -> Served
 where
     D::Link: Drop,
-    requires seat { H.is_of hall.now seat.old }
-    ensures seat { H.is_of hall.now seat.new }
-    ensures serves { ServesReady (C.told clock.now) terms
-        (around (H.knows seat.old) (D.shows door.old) (W.shows wait.old))
-        (around (H.knows seat.new) (D.shows door.new) (W.shows wait.new))
+    requires seat { H.HallApi.is_of hall.now seat.old }
+    ensures seat { H.HallApi.is_of hall.now seat.new }
+    ensures serves { ServesReady (C.told clock.now) (H.answers hall.now) terms
+        (around (H.HallApi.knows seat.old) (D.shows door.old) (W.shows wait.old))
+        (around (H.HallApi.knows seat.new) (D.shows door.new) (W.shows wait.new))
         result.joined result.starved result.end }
 {
     let mut counts = Counts {

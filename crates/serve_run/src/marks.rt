@@ -3,6 +3,8 @@
 //! Nothing is claimed of it, as nothing is claimed of readiness: a mark that is lost is a caller who waits for ever, and
 //! one that is too many costs a call that answers Later. So it stands beside the sessions and not in them.
 
+ghost use Rattle.std.specs.Prelude.{◌≡◌, ◌<◌, true};
+
 use crate::paces::GLANCE_MILLIS;
 use crate::terms::Terms;
 use byte_text::NoMemory;
@@ -33,6 +35,8 @@ pub(crate) struct Marks {
     pub(crate) is_unsure: bool,
     /// The hall was told to close the session.
     pub(crate) is_closed: bool,
+    /// It is a follower: an ask of it was answered out of the log.
+    is_follower: bool,
     /// Something was read of the link, or given to it.
     pub(crate) is_moved: bool,
     // When that was so last.
@@ -50,6 +54,7 @@ impl Marks {
             may_end: false,
             is_unsure: false,
             is_closed: false,
+            is_follower: false,
             is_moved: false,
             since,
         }
@@ -65,6 +70,7 @@ impl Marks {
             may_end: false,
             is_unsure: false,
             is_closed: false,
+            is_follower: false,
             is_moved: false,
             since: 0,
         }
@@ -113,6 +119,8 @@ pub(crate) struct AllMarks {
     is_look_due: bool,
     // Since when the server is to end.
     ending: Option<u64>,
+    // How many sessions are followers.
+    followers: u32,
 }
 
 impl AllMarks {
@@ -128,6 +136,7 @@ impl AllMarks {
             now: 0,
             is_look_due: false,
             ending: None,
+            followers: 0,
         }
     }
 
@@ -222,7 +231,27 @@ impl AllMarks {
 
     /// A session is gone.
     pub(crate) fn leave(&mut self, session: u32) {
-        let _ = self.places.remove(&session);
+        if let Some(place) = self.places.remove(&session) {
+            if place < self.by_place.len() && self.by_place[place].is_follower {
+                self.by_place[place].is_follower = false;
+                self.followers = self.followers.saturating_sub(1);
+            }
+        }
+    }
+
+    /// Whether an ask of a place's session may be answered out of the log: it is a follower, or may become one.
+    pub(crate) fn may_follow(&self, place: usize, terms: Terms) -> bool
+        ensures { result ≡ true → 0 < terms.followers }
+    {
+        terms.followers > 0 && (self.at(place).is_follower || self.followers < terms.followers)
+    }
+
+    /// The session of a place is a follower.
+    pub(crate) fn follow(&mut self, place: usize) {
+        if place < self.by_place.len() && !self.by_place[place].is_follower {
+            self.by_place[place].is_follower = true;
+            self.followers = self.followers.saturating_add(1);
+        }
     }
 
     /// The marks of a place.

@@ -13,9 +13,10 @@ use crate::serves::{finish, listening};
 use crate::terms::Terms;
 use crate::words::ServeWords;
 use outside::{Clock, Failed, ReadyDoor, Sink, WaitForLinks, write_all};
+use repl_stream::FeedApi;
 use std::alloc::Global;
 use std::sync::Wait;
-use world_model::{HallApi, HallSplit};
+use world_model::HallSplit;
 
 // What the words ask of the loop.
 fn terms_of(words: &ServeWords<'_>) -> Terms
@@ -23,6 +24,7 @@ fn terms_of(words: &ServeWords<'_>) -> Terms
       limit = words.now.limit;
       idle = words.now.idle;
       shrink_at = words.now.shrink_at;
+      followers = words.now.followers;
       until_end = words.now.until_end;
     } }
 {
@@ -30,13 +32,21 @@ fn terms_of(words: &ServeWords<'_>) -> Terms
         limit: words.limit,
         idle: words.idle,
         shrink_at: words.shrink_at,
+        followers: words.followers,
         until_end: words.until_end,
     }
 }
 
 /// Opens the door as the words ask for, serves callers in a loop over readiness up to the limit or an end, and answers
 /// the status. Each link that came is shut at the end, and the one that waits shows each as it was then.
-pub fn serve_ready<H: HallSplit, K: Sink, D: ReadyDoor, C: Clock, W: WaitForLinks<D>, R: Wait>(
+pub fn serve_ready<
+    H: HallSplit + FeedApi,
+    K: Sink,
+    D: ReadyDoor,
+    C: Clock,
+    W: WaitForLinks<D>,
+    R: Wait,
+>(
     rt: &R,
     alloc: Global,
     hall: &H,
@@ -50,11 +60,12 @@ pub fn serve_ready<H: HallSplit, K: Sink, D: ReadyDoor, C: Clock, W: WaitForLink
 where
     D::Link: Drop,
     requires seat { H.HallApi.is_of hall.now seat.old }
-    ensures serves { ServesLoop (C.told clock.now) (record {
+    ensures serves { ServesLoop (C.told clock.now) (H.FeedApi.answers hall.now) (record {
       port = opened_at asked.entry.port;
       limit = asked.entry.limit;
       idle = asked.entry.idle;
       shrink_at = asked.entry.shrink_at;
+      followers = asked.entry.followers;
       until_end = asked.entry.until_end;
     })
         (around (H.HallApi.knows seat.old) (D.shows door.old) (W.shows wait.old))

@@ -4,15 +4,22 @@
 //! was made, and its link is written. So the first take of the second half commits for all calls of the first, and no
 //! reply is written before.
 
-ghost use Rattle.std.specs.Prelude.{◌≡◌, ◌≤◌, ◌<◌, ℕ, Option, [], length};
+ghost use Rattle.std.specs.Prelude.{◌≡◌, ◌≤◌, ◌<◌, ℕ, Option, [], length, true, IfSome};
+ghost use Rattle.std.specs.List.{list_all};
 ghost use Rattle.world_data.specs.Limits.{max_moment, take_frames};
+ghost use Rattle.world_model.specs.Outcomes.{is_proper};
 ghost use Rattle.world_model.specs.Seats.{Knows};
 ghost use Rattle.session_run.specs.Sessions.{WantsTurn};
 ghost use Rattle.serve_run.specs.Tends.{IsTold};
-ghost use Rattle.serve_run.specs.SessionSteps.{StepsOn};
+ghost use Rattle.serve_run.specs.Feeds.{FedBy};
+ghost use Rattle.serve_run.specs.Steps.{asks_of};
+ghost use Rattle.serve_run.specs.SessionSteps.{FeedsOn, StepsOn};
 
+use crate::feeds::{ask_in, feed};
 use crate::marks::{AllMarks, Marks};
+use crate::terms::Terms;
 use outside::{Got, ReadyLink, Sent};
+use repl_stream::{Ask, FeedApi, PartBytes};
 use session_run::Session;
 use std::sync::Wait;
 use world_data::TAKE;
@@ -62,25 +69,28 @@ fn asks_to_end(asked: &AskedList) -> bool {
     }
 }
 
-// Makes the calls of a session's requests. Whether each was answered Ok.
-fn ask<H: HallApi, K: ReadyLink + Drop, R: Wait>(
+// Makes the calls of a session's requests, which are in hand. Whether each was answered Ok.
+fn call<H: HallApi, K: ReadyLink + Drop, R: Wait>(
     rt: &R,
     hall: &H,
     seat: &mut H::Seat,
     moment: u64,
     session: &mut Session<K>,
+    asked: AskedList,
     place: usize,
     all: &mut AllMarks,
     touched: ChangedSessions,
 ) -> (bool, ChangedSessions)
     requires seat { H.is_of hall.now seat.old }
     requires moment { moment ≤ max_moment }
-    requires ready { WantsTurn session.old }
+    requires moved { session.old.asked ≡ [] }
+    requires ready { WantsTurn (record session.old { asked = asked }) }
+    requires few { length asked ≤ 64 }
+    requires proper { list_all is_proper asked ≡ true }
     ensures seat { H.is_of hall.now seat.new }
     ensures steps { (told : Option ℕ) → IsTold told moment
-        → StepsOn told (H.knows seat.old) (H.knows seat.new) session.old session.new }
+        → StepsOn told (H.knows seat.old) (H.knows seat.new) (record session.old { asked = asked }) session.new }
 {
-    let asked = session.move_asked();
     if asks_to_end(&asked) {
         all.expect_end(place);
     }
@@ -90,8 +100,20 @@ fn ask<H: HallApi, K: ReadyLink + Drop, R: Wait>(
     (matches!(answers.end, CallOutcome::Ok), touched)
 }
 
-// Makes the calls of the requests that wait, some turns of them, up to the first that is not answered Ok.
-fn ask_all<H: HallApi, K: ReadyLink + Drop, R: Wait>(
+// The ask that these requests of a place's session are, where it may be answered out of the log.
+fn follower_ask(asked: &AskedList, place: usize, all: &AllMarks, terms: Terms) -> Option<Ask>
+    ensures ask { IfSome result (λ ask. asked.now ≡ asks_of ask) }
+    ensures allowed { IfSome result (λ ask. 0 < terms.followers) }
+{
+    if !all.may_follow(place, terms) {
+        return None;
+    }
+    ask_in(asked)
+}
+
+// Answers the requests of a session's turn: an ask of a follower out of the log, and what else there is by its calls.
+// Whether each was answered Ok.
+fn ask<H: FeedApi, K: ReadyLink + Drop, R: Wait>(
     rt: &R,
     hall: &H,
     seat: &mut H::Seat,
@@ -99,20 +121,59 @@ fn ask_all<H: HallApi, K: ReadyLink + Drop, R: Wait>(
     session: &mut Session<K>,
     place: usize,
     all: &mut AllMarks,
+    part: &mut Option<PartBytes>,
     touched: ChangedSessions,
-) -> ChangedSessions
-    requires seat { H.is_of hall.now seat.old }
+    terms: Terms,
+) -> (bool, ChangedSessions)
+    requires seat { H.HallApi.is_of hall.now seat.old }
     requires moment { moment ≤ max_moment }
-    ensures seat { H.is_of hall.now seat.new }
+    requires ready { WantsTurn session.old }
+    ensures seat { H.HallApi.is_of hall.now seat.new }
     ensures steps { (told : Option ℕ) → IsTold told moment
-        → StepsOn told (H.knows seat.old) (H.knows seat.new) session.old session.new }
+        → FeedsOn (FedBy (H.answers hall.now) terms) told (H.HallApi.knows seat.old) (H.HallApi.knows seat.new)
+        session.old session.new }
+{
+    let asked = session.move_asked();
+    let Some(ask) = follower_ask(&asked, place, all, terms) else {
+        return call(rt, hall, seat, moment, session, asked, place, all, touched);
+    };
+    let Some(into) = part.take() else {
+        return call(rt, hall, seat, moment, session, asked, place, all, touched);
+    };
+    all.follow(place);
+    let (is_given, into) = feed(rt, hall, seat, session, asked, ask, into, terms);
+    *part = Some(into);
+    (is_given, touched)
+}
+
+// Answers the requests that wait, some turns of them, up to the first that is not answered Ok.
+fn ask_all<H: FeedApi, K: ReadyLink + Drop, R: Wait>(
+    rt: &R,
+    hall: &H,
+    seat: &mut H::Seat,
+    moment: u64,
+    session: &mut Session<K>,
+    place: usize,
+    all: &mut AllMarks,
+    part: &mut Option<PartBytes>,
+    touched: ChangedSessions,
+    terms: Terms,
+) -> ChangedSessions
+    requires seat { H.HallApi.is_of hall.now seat.old }
+    requires moment { moment ≤ max_moment }
+    ensures seat { H.HallApi.is_of hall.now seat.new }
+    ensures steps { (told : Option ℕ) → IsTold told moment
+        → FeedsOn (FedBy (H.answers hall.now) terms) told (H.HallApi.knows seat.old) (H.HallApi.knows seat.new)
+        session.old session.new }
 {
     let mut touched = touched;
     for _ in 0..MOST_TURNS {
         if !session.wants_turn() {
             return touched;
         }
-        let (goes_on, back) = ask(rt, hall, seat, moment, session, place, all, touched);
+        let (goes_on, back) = ask(
+            rt, hall, seat, moment, session, place, all, part, touched, terms,
+        );
         touched = back;
         if !goes_on {
             return touched;
@@ -121,8 +182,8 @@ fn ask_all<H: HallApi, K: ReadyLink + Drop, R: Wait>(
     touched
 }
 
-/// The first half of a round: what came is read, and the calls of what it asks are made.
-pub(crate) fn step_in<H: HallApi, K: ReadyLink + Drop, R: Wait>(
+/// The first half of a round: what came is read, and what it asks is answered.
+pub(crate) fn step_in<H: FeedApi, K: ReadyLink + Drop, R: Wait>(
     rt: &R,
     hall: &H,
     seat: &mut H::Seat,
@@ -131,14 +192,17 @@ pub(crate) fn step_in<H: HallApi, K: ReadyLink + Drop, R: Wait>(
     place: usize,
     all: &mut AllMarks,
     block: &mut [u8],
+    part: &mut Option<PartBytes>,
     touched: ChangedSessions,
+    terms: Terms,
 ) -> ChangedSessions
-    requires seat { H.is_of hall.now seat.old }
+    requires seat { H.HallApi.is_of hall.now seat.old }
     requires moment { moment ≤ max_moment }
     requires some { 0 < length block.old }
-    ensures seat { H.is_of hall.now seat.new }
+    ensures seat { H.HallApi.is_of hall.now seat.new }
     ensures steps { (told : Option ℕ) → IsTold told moment
-        → StepsOn told (H.knows seat.old) (H.knows seat.new) session.old session.new }
+        → FeedsOn (FedBy (H.answers hall.now) terms) told (H.HallApi.knows seat.old) (H.HallApi.knows seat.new)
+        session.old session.new }
     ensures block { length block.new ≡ length block.old }
 {
     let mut marks = all.at(place);
@@ -149,7 +213,9 @@ pub(crate) fn step_in<H: HallApi, K: ReadyLink + Drop, R: Wait>(
     }
     marks.is_due = true;
     all.put(place, marks);
-    ask_all(rt, hall, seat, moment, session, place, all, touched)
+    ask_all(
+        rt, hall, seat, moment, session, place, all, part, touched, terms,
+    )
 }
 
 // Takes a session's frames once, where there may be some.

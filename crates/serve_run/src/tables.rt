@@ -8,14 +8,17 @@ ghost use Rattle.world_model.specs.Seats.{Knows};
 ghost use Rattle.outside.specs.Doors.{DoorState};
 ghost use Rattle.session_run.specs.Sessions.{SessionState, IsOver};
 ghost use Rattle.serve_run.specs.declared.terms.Terms.{Terms};
+ghost use Rattle.serve_run.specs.Feeds.{FedBy};
 ghost use Rattle.serve_run.specs.LoopEnds.{ShutBy, end_behind};
-ghost use Rattle.serve_run.specs.LoopStates.{Keeps, KeepsTable, KeepsShutTo, NoneOpen, loop_state};
+ghost use Rattle.serve_run.specs.LoopStates.{Keeps, KeepsTable, FeedsTable, KeepsShutTo, NoneOpen, loop_state};
 
 use crate::marks::AllMarks;
 use crate::session_steps::{step_in, step_out};
 use crate::tends::ServeEnd;
+use crate::terms::Terms;
 use crate::unfences::remove;
 use outside::{ReadyDoor, ReadyLink, WaitForLinks};
+use repl_stream::{FeedApi, PartBytes};
 use session_run::Session;
 use std::alloc::Global;
 use std::mem;
@@ -26,7 +29,7 @@ use world_model::{ChangedSessions, Frames, HallApi};
 pub(crate) type Table<K> = Vec<Option<Session<K>>>;
 
 // The first half of a round, for the session of a place.
-fn one_in<H: HallApi, K: ReadyLink + Drop, R: Wait>(
+fn one_in<H: FeedApi, K: ReadyLink + Drop, R: Wait>(
     rt: &R,
     hall: &H,
     seat: &mut H::Seat,
@@ -35,26 +38,30 @@ fn one_in<H: HallApi, K: ReadyLink + Drop, R: Wait>(
     place: usize,
     all: &mut AllMarks,
     block: &mut [u8],
+    part: &mut Option<PartBytes>,
     touched: ChangedSessions,
+    terms: Terms,
 ) -> ChangedSessions
-    requires seat { H.is_of hall.now seat.old }
+    requires seat { H.HallApi.is_of hall.now seat.old }
     requires moment { moment ≤ max_moment }
     requires some { 0 < length block.old }
     requires within { place < length table.old.items }
-    ensures seat { H.is_of hall.now seat.new }
-    ensures keeps { (told : Option ℕ) → (terms : Terms) → IsTold told moment
-        → KeepsTable told terms (H.knows seat.old) (H.knows seat.new) table.old.items table.new.items }
+    ensures seat { H.HallApi.is_of hall.now seat.new }
+    ensures keeps { (told : Option ℕ) → IsTold told moment
+        → FeedsTable (FedBy (H.answers hall.now) terms) told terms (H.HallApi.knows seat.old) (H.HallApi.knows seat.new) table.old.items table.new.items }
     ensures length { length table.new.items ≡ length table.old.items }
     ensures block { length block.new ≡ length block.old }
 {
     match &mut table[place] {
-        Some(session) => step_in(rt, hall, seat, moment, session, place, all, block, touched),
+        Some(session) => step_in(
+            rt, hall, seat, moment, session, place, all, block, part, touched, terms,
+        ),
         None => touched,
     }
 }
 
 /// The first half of a round, for each session.
-pub(crate) fn all_in<H: HallApi, K: ReadyLink + Drop, R: Wait>(
+pub(crate) fn all_in<H: FeedApi, K: ReadyLink + Drop, R: Wait>(
     rt: &R,
     hall: &H,
     seat: &mut H::Seat,
@@ -62,19 +69,23 @@ pub(crate) fn all_in<H: HallApi, K: ReadyLink + Drop, R: Wait>(
     table: &mut Table<K>,
     all: &mut AllMarks,
     block: &mut [u8],
+    part: &mut Option<PartBytes>,
     touched: ChangedSessions,
+    terms: Terms,
 ) -> ChangedSessions
-    requires seat { H.is_of hall.now seat.old }
+    requires seat { H.HallApi.is_of hall.now seat.old }
     requires moment { moment ≤ max_moment }
     requires some { 0 < length block.old }
-    ensures seat { H.is_of hall.now seat.new }
-    ensures keeps { (told : Option ℕ) → (terms : Terms) → IsTold told moment
-        → KeepsTable told terms (H.knows seat.old) (H.knows seat.new) table.old.items table.new.items }
+    ensures seat { H.HallApi.is_of hall.now seat.new }
+    ensures keeps { (told : Option ℕ) → IsTold told moment
+        → FeedsTable (FedBy (H.answers hall.now) terms) told terms (H.HallApi.knows seat.old) (H.HallApi.knows seat.new) table.old.items table.new.items }
     ensures block { length block.new ≡ length block.old }
 {
     let mut touched = touched;
     for place in 0..table.len() {
-        touched = one_in(rt, hall, seat, moment, table, place, all, block, touched);
+        touched = one_in(
+            rt, hall, seat, moment, table, place, all, block, part, touched, terms,
+        );
     }
     touched
 }

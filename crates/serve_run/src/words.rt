@@ -27,6 +27,9 @@ const MOST_SHRINK_AT: u32 = 1_000_000;
 /// Where the words say nothing else, the log is rewritten when it has grown by so many per cent.
 const SHRINK_AT: u32 = 100;
 
+/// So many sessions may be followers at a time, at most.
+const MOST_FOLLOWERS: u32 = 64;
+
 /// What the words ask for where they ask to serve.
 #[derive(Clone, Copy)]
 pub struct ServeWords<'a> {
@@ -38,11 +41,13 @@ pub struct ServeWords<'a> {
     pub idle: u32,
     /// By so many per cent the log grows until it is rewritten; 0 for never.
     pub shrink_at: u32,
+    /// How many sessions may be followers at a time.
+    pub followers: u32,
     /// Whether the end of standard input asks for the end.
     pub until_end: bool,
 }
 
-// `NAME ADDR [--sessions N] [--idle SECONDS] [--shrink-at PERCENT] [--until-stdin-ends] [--origin LIST]`
+// `NAME ADDR [--sessions N] [--idle SECONDS] [--shrink-at PERCENT] [--followers N] [--until-stdin-ends] [--origin LIST]`
 fn link_command<'a>(alloc: Global, name: &'a str) -> Result<Command<'a>, NoMemory>
     ensures { IfOk result (λ c. app_of c ≡ link_app name.now) }
 {
@@ -50,6 +55,7 @@ fn link_command<'a>(alloc: Global, name: &'a str) -> Result<Command<'a>, NoMemor
     let command = with_option(alloc, command, "sessions")?;
     let command = with_option(alloc, command, "idle")?;
     let command = with_option(alloc, command, "shrink-at")?;
+    let command = with_option(alloc, command, "followers")?;
     let command = with_flag(alloc, command, "until-stdin-ends")?;
     with_option(alloc, command, "origin")
 }
@@ -125,6 +131,7 @@ fn asked_in<'a>(matches: &ArgMatches<'a>, kinds: Kinds) -> Option<ServeWords<'a>
         limit: number_in(word_in(matches, "sessions"), 1, MOST_LINKS, MOST_LINKS)?,
         idle: number_in(word_in(matches, "idle"), 1, MOST_IDLE, 0)?,
         shrink_at: number_in(word_in(matches, "shrink-at"), 0, MOST_SHRINK_AT, SHRINK_AT)?,
+        followers: number_in(word_in(matches, "followers"), 0, MOST_FOLLOWERS, 0)?,
         until_end: is_given(word_in(matches, "until-stdin-ends")),
     })
 }

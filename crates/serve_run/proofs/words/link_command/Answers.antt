@@ -13,5 +13,6 @@ returns c =
     let sessions = c.in_ok-command-2.ensures ∙ ap (λ (app : App). with_rule app (option_rule (codes "sessions"))) addr in
     let idle = c.in_ok-command-3.ensures ∙ ap (λ (app : App). with_rule app (option_rule (codes "idle"))) sessions in
     let shrink_at = c.in_ok-command-4.ensures ∙ ap (λ (app : App). with_rule app (option_rule (codes "shrink-at"))) idle in
-    let until = c.in_ok-command-5.ensures ∙ ap (λ (app : App). with_rule app (flag_rule (codes "until-stdin-ends"))) shrink_at in
-    IfOk-weaker c.with_option-4.result _ _ (λ r is. is ∙ ap (λ (app : App). with_rule app (option_rule (codes "origin"))) until) c.with_option-4.ensures
+    let followers = c.in_ok-command-5.ensures ∙ ap (λ (app : App). with_rule app (option_rule (codes "followers"))) shrink_at in
+    let until = c.in_ok-command-6.ensures ∙ ap (λ (app : App). with_rule app (flag_rule (codes "until-stdin-ends"))) followers in
+    IfOk-weaker c.with_option-5.result _ _ (λ r is. is ∙ ap (λ (app : App). with_rule app (option_rule (codes "origin"))) until) c.with_option-5.ensures
