@@ -15,7 +15,14 @@ use Rattle.world_model.specs.declared.events.LogState.{LogState}
 use Rattle.world_model.specs.declared.events.Taken.{Taken}
 use Rattle.world_model.specs.declared.events.Event.TheVariants as event
 use Rattle.world_model.specs.declared.events.Outcome.TheVariants as outcome
+use Rattle.world_model.specs.Halls.{Hall}
+use Rattle.repl_stream.specs.Feeds.{IfGiven, bytes_in, called_of}
+use Rattle.repl_stream.specs.declared.feeds.PartAnswer.{PartAnswer}
+use Rattle.repl_stream.specs.declared.feeds.PartAnswer.TheVariants as parts
+use Rattle.repl_stream.specs.declared.part_bytes.PartBytes.{PartBytes}
+use Rattle.durable_core.specs.Parts.{IsPartOfWorld}
 use Rattle.shared_hall.specs.declared.works.Asking.{Asking}
+use Rattle.shared_hall.specs.declared.works.AskingPart.{AskingPart}
 use Rattle.shared_hall.specs.declared.works.Taking.{Taking}
 use Rattle.shared_hall.specs.declared.works.Ticking.{Ticking}
 use Rattle.shared_hall.specs.declared.works.HallAnswer.{HallAnswer}
@@ -24,9 +31,9 @@ use Rattle.shared_hall.specs.declared.works.HallWork.{HallWork}
 use Rattle.shared_hall.specs.declared.works.HallWork.TheVariants as work
 use Rattle.shared_hall.specs.declared.places.Place.{Place}
 use Rattle.durable_core.specs.Histories.{Writing}
-use Rattle.shared_hall.specs.Cores.{hall_in}
+use Rattle.shared_hall.specs.Cores.{hall_in, tells, writing_in}
 use Rattle.shared_hall.specs.Turns.{acts, retires, Gives}
-use Rattle.shared_hall.specs.Seats.{IsDone}
+use Rattle.shared_hall.specs.Seats.{AnswersAsk, IsDone}
 use Rattle.shared_hall.proofs.Adding.{NoRetire, calls_go_on, adds_acts, adds_named}
 
 module _ {D : Type 0} (crashes : D → Bool) (seen : D → Option Sides) (images : D → Sides → Type 0) (moment : D → ℕ) (left_since : D → ℕ → Sides → Type 0) (faults : D → ℕ) (handed : D) (first : Writing) where
@@ -42,6 +49,7 @@ module _ {D : Type 0} (crashes : D → Bool) (seen : D → Option Sides) (images
   is_entered old new (answer.Taken t into) g = absurd g
   is_entered old new (answer.Ticked c touched) g = absurd g
   is_entered old new (answer.Rewrote c state) g = absurd g
+  is_entered old new (answer.Parted a into) g = absurd g
   is_entered old new (answer.Retired given) g = absurd g
   is_entered old new answer.Done g = absurd g
 
@@ -51,6 +59,7 @@ module _ {D : Type 0} (crashes : D → Bool) (seen : D → Option Sides) (images
   is_called w old new (answer.Taken t into) g = absurd g
   is_called w old new (answer.Ticked c touched) g = absurd g
   is_called w old new (answer.Rewrote c state) g = absurd g
+  is_called w old new (answer.Parted a into) g = absurd g
   is_called w old new (answer.Retired given) g = absurd g
   is_called w old new answer.Done g = absurd g
 
@@ -60,6 +69,7 @@ module _ {D : Type 0} (crashes : D → Bool) (seen : D → Option Sides) (images
   is_taken w old new (answer.Taken t into) g = (t, into, refl)
   is_taken w old new (answer.Ticked c touched) g = absurd g
   is_taken w old new (answer.Rewrote c state) g = absurd g
+  is_taken w old new (answer.Parted a into) g = absurd g
   is_taken w old new (answer.Retired given) g = absurd g
   is_taken w old new answer.Done g = absurd g
 
@@ -69,6 +79,7 @@ module _ {D : Type 0} (crashes : D → Bool) (seen : D → Option Sides) (images
   is_ticked w old new (answer.Taken t into) g = absurd g
   is_ticked w old new (answer.Ticked c touched) g = (c, touched, refl)
   is_ticked w old new (answer.Rewrote c state) g = absurd g
+  is_ticked w old new (answer.Parted a into) g = absurd g
   is_ticked w old new (answer.Retired given) g = absurd g
   is_ticked w old new answer.Done g = absurd g
 
@@ -78,6 +89,7 @@ module _ {D : Type 0} (crashes : D → Bool) (seen : D → Option Sides) (images
   is_closed n old new (answer.Taken t into) g = absurd g
   is_closed n old new (answer.Ticked c touched) g = absurd g
   is_closed n old new (answer.Rewrote c state) g = absurd g
+  is_closed n old new (answer.Parted a into) g = absurd g
   is_closed n old new (answer.Retired given) g = absurd g
   is_closed n old new answer.Done g = refl
 
@@ -87,6 +99,7 @@ module _ {D : Type 0} (crashes : D → Bool) (seen : D → Option Sides) (images
   is_removed n old new (answer.Taken t into) g = absurd g
   is_removed n old new (answer.Ticked c touched) g = absurd g
   is_removed n old new (answer.Rewrote c state) g = absurd g
+  is_removed n old new (answer.Parted a into) g = absurd g
   is_removed n old new (answer.Retired given) g = absurd g
   is_removed n old new answer.Done g = refl
 
@@ -96,8 +109,19 @@ module _ {D : Type 0} (crashes : D → Bool) (seen : D → Option Sides) (images
   is_rewrote old new (answer.Taken t into) g = absurd g
   is_rewrote old new (answer.Ticked c touched) g = absurd g
   is_rewrote old new (answer.Rewrote c state) g = (c, state, refl)
+  is_rewrote old new (answer.Parted a into) g = absurd g
   is_rewrote old new (answer.Retired given) g = absurd g
   is_rewrote old new answer.Done g = absurd g
+
+  is_parted : (w : AskingPart) (old new : Place D) (out : HallAnswer D) → GivesIn (work.Part w) old out new → (a : PartAnswer) × (into : PartBytes) × (out ≡ answer.Parted a into)
+  is_parted w old new (answer.Entered r) g = absurd g
+  is_parted w old new (answer.Called a asked touched) g = absurd g
+  is_parted w old new (answer.Taken t into) g = absurd g
+  is_parted w old new (answer.Ticked c touched) g = absurd g
+  is_parted w old new (answer.Rewrote c state) g = absurd g
+  is_parted w old new (answer.Parted a into) g = (a, into, refl)
+  is_parted w old new (answer.Retired given) g = absurd g
+  is_parted w old new answer.Done g = absurd g
 
   is_retired : (old new : Place D) (out : HallAnswer D) → GivesIn work.Retire old out new → (given : Option (D × CallOutcome)) × (out ≡ answer.Retired given)
   is_retired old new (answer.Entered r) g = absurd g
@@ -105,6 +129,7 @@ module _ {D : Type 0} (crashes : D → Bool) (seen : D → Option Sides) (images
   is_retired old new (answer.Taken t into) g = absurd g
   is_retired old new (answer.Ticked c touched) g = absurd g
   is_retired old new (answer.Rewrote c state) g = absurd g
+  is_retired old new (answer.Parted a into) g = absurd g
   is_retired old new (answer.Retired given) g = (given, refl)
   is_retired old new answer.Done g = absurd g
 
@@ -145,6 +170,30 @@ module _ {D : Type 0} (crashes : D → Bool) (seen : D → Option Sides) (images
   pub rewrote : (out : HallAnswer D) (old new : Knows) (a : CallOutcome) (state : LogState) → out ≡ answer.Rewrote a state → Done work.StepRewrite out old new → AddsCalls ((event.Rewrite, outcome.Answered a) ∷ []) old new
   rewrote out old new a state is d = adds_acts crashes seen images moment left_since faults handed first work.StepRewrite out old new ((event.Rewrite, outcome.Answered a) ∷ []) (ap (λ (z : HallAnswer D). acts work.StepRewrite z) is) d
 
+  pub parted : (w : AskingPart) (out : HallAnswer D) (old new : Knows) (a : PartAnswer) (into : PartBytes) → out ≡ answer.Parted a into → Done (work.Part w) out old new
+      → AddsCalls ((event.Rewrite, outcome.Answered (called_of a)) ∷ []) old new
+  parted w out old new a into is d = adds_acts crashes seen images moment left_since faults handed first (work.Part w) out old new ((event.Rewrite, outcome.Answered (called_of a)) ∷ []) (ap (λ (z : HallAnswer D). acts (work.Part w) z) is) d
+
+  -- what a part is, by the world to which the history leads
+  parted_gives : (w : AskingPart) (out : HallAnswer D) (old new : Knows) (a : PartAnswer) (into : PartBytes) → out ≡ answer.Parted a into → (d : Done (work.Part w) out old new) → GivesIn (work.Part w) d.before (answer.Parted a into) d.after
+  parted_gives w out old new a into is d = subst (λ (z : HallAnswer D). GivesIn (work.Part w) d.before z d.after) is d.gives
+
+  pub parted_answers : (w : AskingPart) (out : HallAnswer D) (old new : Knows) (a : PartAnswer) (into : PartBytes) → out ≡ answer.Parted a into → Done (work.Part w) out old new
+      → IfGiven a (λ part. AnswersAsk (tells crashes seen handed) first new w.ask part (bytes_in into))
+  parted_answers w out old new a into is d = by a (parted_gives w out old new a into is d)
+    where
+      by : (a : PartAnswer) → GivesIn (work.Part w) d.before (answer.Parted a into) d.after → IfGiven a (λ part. AnswersAsk (tells crashes seen handed) first new w.ask part (bytes_in into))
+      by (parts.Given part) gives = record {
+        generation = (writing_in d.after).generation;
+        leaves = record { hall = hall_in d.after; end = writing_in d.after; writes = d.stands.writes; is = refl };
+        is = λ told h reached.
+            let k = d.stood.kept told in
+            subst (λ (x : Hall). IsPartOfWorld w.ask (writing_in d.after).generation x.world part (bytes_in into)) (sym (d.one h reached)) (gives k.1.0 k.1.1);
+      }
+      by parts.LogFault gives = tt
+      by parts.Stopped gives = tt
+      by parts.Memory gives = tt
+
   -- of a work that was done, the answer's own kind
 
   pub entered_out : (out : HallAnswer D) (old new : Knows) → Done work.Enter out old new → (r : Result ℕ EnterFault) × (out ≡ answer.Entered r)
@@ -162,6 +211,9 @@ module _ {D : Type 0} (crashes : D → Bool) (seen : D → Option Sides) (images
   pub rewrote_out : (out : HallAnswer D) (old new : Knows) → Done work.StepRewrite out old new → (c : CallOutcome) × (state : LogState) × (out ≡ answer.Rewrote c state)
   rewrote_out out old new d = is_rewrote d.before d.after out d.gives
 
+  pub parted_out : (w : AskingPart) (out : HallAnswer D) (old new : Knows) → Done (work.Part w) out old new → (a : PartAnswer) × (into : PartBytes) × (out ≡ answer.Parted a into)
+  parted_out w out old new d = is_parted w d.before d.after out d.gives
+
   -- none of its acts is a retirement
   pub goes_on : (w : HallWork) (old new : Place D) (out : HallAnswer D) → GivesIn w old out new → retires w ≡ false → NoRetire (acts w out)
   goes_on work.Enter old new out g stays = let k = is_entered old new out g in subst (λ (z : HallAnswer D). NoRetire (acts work.Enter z)) (sym k.1) (refl, tt)
@@ -172,6 +224,7 @@ module _ {D : Type 0} (crashes : D → Bool) (seen : D → Option Sides) (images
   goes_on (work.Close n) old new out g stays = subst (λ (z : HallAnswer D). NoRetire (acts (work.Close n) z)) (sym (is_closed n old new out g)) (refl, tt)
   goes_on (work.Remove n) old new out g stays = subst (λ (z : HallAnswer D). NoRetire (acts (work.Remove n) z)) (sym (is_removed n old new out g)) (refl, tt)
   goes_on work.StepRewrite old new out g stays = let k = is_rewrote old new out g in subst (λ (z : HallAnswer D). NoRetire (acts work.StepRewrite z)) (sym k.2) (refl, tt)
+  goes_on (work.Part w) old new out g stays = let k = is_parted w old new out g in subst (λ (z : HallAnswer D). NoRetire (acts (work.Part w) z)) (sym k.2) (refl, tt)
   goes_on work.Retire old new out g stays = absurd (true≢false stays)
 
   pub retired_out : (out : HallAnswer D) (old new : Knows) → Done work.Retire out old new → (given : Option (D × CallOutcome)) × (out ≡ answer.Retired given)

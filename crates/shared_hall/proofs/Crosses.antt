@@ -19,6 +19,8 @@ use Rattle.std.proofs.option.Option.TheSendSync as option_sends
 use Rattle.std.specs.contracts.option.Option as option
 use Rattle.world_model.proofs.events.CallOutcome.TheSendSync as called
 use Rattle.world_model.specs.contracts.events.CallOutcome as called_row
+use Rattle.repl_stream.proofs.feeds.PartAnswer.TheSendSync as part_answer
+use Rattle.repl_stream.proofs.part_bytes.PartBytes.TheSendSync as part_bytes
 use Rattle.std.proofs.Crossing.{crosses}
 use Rattle.rtree.proofs.Crosses.{tree_send}
 use Rattle.collection.specs.contracts.collections.Collection as collection
@@ -88,7 +90,7 @@ answer_field_send D s =
         (answers.the_field_send, (asked.the_send, (touched.the_send, tt))),
         (
           (taken.the_field_send, (frames.the_send, tt)),
-          ((called.the_field_send, (touched.the_send, tt)), ((called.the_field_send, (state.the_field_send, tt)), ((given_send D s, tt), (tt, tt)))),
+          ((called.the_field_send, (touched.the_send, tt)), ((called.the_field_send, (state.the_field_send, tt)), ((part_answer.the_field_send, (part_bytes.the_field_send, tt)), ((given_send D s, tt), (tt, tt))))),
         ),
       ),
     )

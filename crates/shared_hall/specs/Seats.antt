@@ -16,8 +16,12 @@ use Rattle.world_model.specs.Seats.{Knows, AddsCalls, NamesChangedBy}
 use Rattle.world_model.specs.declared.events.Entry.{Entry}
 use Rattle.world_model.specs.declared.events.Opening.{Opening}
 use Rattle.durable_core.specs.declared.cores.DurableCore.{DurableCore}
-use Rattle.durable_core.specs.Histories.{Writing, writing_of}
+use Rattle.byte_text.specs.Names.{Bytes}
+use Rattle.durable_core.specs.Histories.{LeavesGeneration, Writing, writing_of}
 use Rattle.durable_core.specs.Logged.{hall_of, disk_of}
+use Rattle.durable_core.specs.Parts.{IsPartOfWorld}
+use Rattle.repl_stream.specs.declared.asks.Ask.{Ask}
+use Rattle.repl_stream.specs.declared.parts.Part.{Part}
 use Rattle.shared_hall.specs.declared.places.HallCore.{HallCore}
 use Rattle.shared_hall.specs.declared.places.Place.{Place}
 use Rattle.shared_hall.specs.declared.places.Begun.{Begun}
@@ -88,3 +92,10 @@ module _ {D : Type 0} (crashes : D → Bool) (seen : D → Option Sides) (images
     pub stands : StandsIn crashes seen images moment left_since faults (tells crashes seen handed) first after new.opening new.seen
     pub one : (h : Hall) → Reaches new.opening new.seen h → h ≡ hall_in after
     pub once : old.first ≡ true → list_any is_retirement old.seen ≡ has_left before
+
+-- Behind what a seat knows, this part answers the ask: the history leaves a log of this generation, and where the disk that was handed in told
+-- its contents and what a crash may leave, the part is of a log whose batches make the world to which the history leads.
+pub record AnswersAsk (told : Bool) (first : Writing) (k : Knows) (ask : Ask) (part : Part) (bytes : Bytes) : Type 0 where
+  pub generation : ℕ
+  pub leaves : LeavesGeneration k.opening first k.seen generation
+  pub is : told ≡ true → (h : Hall) → Reaches k.opening k.seen h → IsPartOfWorld ask generation h.world part bytes

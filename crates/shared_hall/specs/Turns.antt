@@ -15,6 +15,8 @@ use Rattle.world_model.specs.declared.events.Entry.{Entry}
 use Rattle.journal.specs.Openings.{opened_generation}
 use Rattle.log_record.specs.Journals.{Journal}
 use Rattle.log_record.specs.Recovery.{Recovers}
+use Rattle.repl_stream.specs.Feeds.{IfGiven, bytes_in, called_of}
+use Rattle.durable_core.specs.Parts.{IsPartOfWorld}
 use Rattle.shared_hall.specs.Cores.{hall_in, disk_in, has_left, log_state_in, writing_in, KeepsIn, time_with}
 use Rattle.shared_hall.specs.Times.{entries_at}
 use Rattle.shared_hall.specs.declared.places.HallCore.{HallCore}
@@ -38,6 +40,7 @@ acts (work.Tick w) (answer.Ticked c touched) = (event.Tick w.moment, outcome.Ans
 acts (work.Close n) answer.Done = (event.Close n, outcome.Done) ∷ []
 acts (work.Remove n) answer.Done = (event.Remove n, outcome.Done) ∷ []
 acts work.StepRewrite (answer.Rewrote c state) = (event.Rewrite, outcome.Answered c) ∷ []
+acts (work.Part w) (answer.Parted a into) = (event.Rewrite, outcome.Answered (called_of a)) ∷ []
 acts work.Retire (answer.Retired given) = (event.Retire, retire_outcome given) ∷ []
 acts _ _ = []
 
@@ -77,5 +80,7 @@ module _ {D : Type 0} (crashes : D → Bool) (seen : D → Option Sides) (images
   Gives (work.Close n) old answer.Done new = Unit {0}
   Gives (work.Remove n) old answer.Done new = Unit {0}
   Gives work.StepRewrite old (answer.Rewrote c state) new = state ≡ log_state_in new
+  Gives (work.Part w) old (answer.Parted a into) new = (j : Journal) → KeepsIn crashes seen images old j
+      → IfGiven a (λ part. IsPartOfWorld w.ask (writing_in new).generation (hall_in new).world part (bytes_in into))
   Gives work.Retire old (answer.Retired given) new = GivesOut old given new
   Gives _ _ _ _ = ⊥

@@ -8,11 +8,15 @@ ghost use Rattle.world_model.specs.Outcomes.{enter_outcome, take_outcome, given_
 ghost use Rattle.world_model.specs.declared.events.Event.TheVariants as event;
 ghost use Rattle.world_model.specs.declared.events.Outcome.TheVariants as outcome;
 ghost use Rattle.tile_core.specs.Answered.{AreSessions, StayNamed};
-ghost use Rattle.shared_hall.specs.Cores.{Acts, hall_in, log_state_in};
+ghost use Rattle.log_record.specs.Journals.{Journal};
+ghost use Rattle.repl_stream.specs.Feeds.{IfGiven, bytes_in, called_of};
+ghost use Rattle.durable_core.specs.Parts.{IsPartOfWorld};
+ghost use Rattle.shared_hall.specs.Cores.{Acts, KeepsIn, hall_in, log_state_in, writing_in};
 ghost use Rattle.shared_hall.specs.Turns.{GivesOut, retire_outcome};
 
 use crate::places::{HallCore, Place};
 use outside::Disk;
+use repl_stream::{Ask, PartAnswer, PartBytes};
 use std::mem;
 use std::snapshot::Snapshot;
 use world_model::{Asked, CallOutcome, ChangedSessions, EnterFault, Frames, LogState, Taken};
@@ -148,6 +152,24 @@ impl<D: Disk + Drop> HallCore<D> {
                     is_rewriting: false,
                 },
             ),
+        }
+    }
+
+    /// The answer to an ask out of the log, behind a step of rewriting.
+    pub(crate) fn log_part(&mut self, ask: Ask, into: &mut PartBytes) -> PartAnswer
+        ensures act { Acts D.crashes D.seen D.images D.moment D.left_since D.faults self.old.place self.new.place
+            (event.Rewrite, outcome.Answered (called_of result)) }
+        ensures part { (j : Journal) → KeepsIn D.crashes D.seen D.images self.old.place j
+            → IfGiven result
+            (λ part. IsPartOfWorld ask (writing_in self.new.place).generation (hall_in self.new.place).world part
+            (bytes_in into.new)) }
+        ensures before { self.new.before.value ≡ self.old.place }
+        ensures handed { self.new.handed ≡ self.old.handed }
+    {
+        self.begin();
+        match &mut self.place {
+            Place::Inside(core) => core.log_part(ask, into),
+            Place::Out(_) => PartAnswer::Stopped,
         }
     }
 

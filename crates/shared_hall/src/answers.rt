@@ -10,7 +10,7 @@ ghost use Rattle.shared_hall.specs.Turns.{acts, Gives};
 ghost use Rattle.shared_hall.specs.declared.works.HallWork.TheVariants as work;
 
 use crate::places::HallCore;
-use crate::works::{Asking, HallAnswer, HallWork, Taking, Ticking};
+use crate::works::{Asking, AskingPart, HallAnswer, HallWork, Taking, Ticking};
 use outside::Disk;
 use turn_lock::Work;
 use world_model::{Answers, AskedList, CallOutcome, ChangedSessions};
@@ -29,7 +29,7 @@ impl<D: Disk + Drop> Work<HallCore<D>> for HallWork {
     fn is_late(&self) -> bool {
         matches!(
             self,
-            HallWork::Take(_) | HallWork::StepRewrite | HallWork::Retire
+            HallWork::Take(_) | HallWork::StepRewrite | HallWork::Part(_) | HallWork::Retire
         )
     }
 
@@ -63,6 +63,7 @@ fn answer<D: Disk + Drop>(core: &mut HallCore<D>, asked: HallWork) -> HallAnswer
             let (called, log) = core.step_rewrite();
             HallAnswer::Rewrote(called, log)
         }
+        HallWork::Part(asking) => answer_part(core, asking),
         HallWork::Retire => HallAnswer::Retired(core.retire()),
     }
 }
@@ -111,6 +112,18 @@ fn answer_tick<D: Disk + Drop>(core: &mut HallCore<D>, ticking: Ticking) -> Hall
     touched.clear();
     let called = core.tick(moment, &mut touched);
     HallAnswer::Ticked(called, touched)
+}
+
+fn answer_part<D: Disk + Drop>(core: &mut HallCore<D>, asking: AskingPart) -> HallAnswer<D>
+    ensures handed { core.new.handed ≡ core.old.handed }
+    ensures gives { Gives D.crashes D.seen D.images D.moment D.left_since D.faults
+        (work.Part asking) core.old.place result core.new.place }
+    ensures turn { TurnsBy D.crashes D.seen D.images D.moment D.left_since D.faults (acts (work.Part asking) result)
+        (disk_in core.new.before.value) core.old.place core.new.place }
+{
+    let AskingPart { ask, mut into } = asking;
+    let given = core.log_part(ask, &mut into);
+    HallAnswer::Parted(given, into)
 }
 
 // Makes the calls of a session in order, up to the first that is not answered Ok.

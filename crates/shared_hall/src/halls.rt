@@ -21,9 +21,10 @@ ghost use Rattle.shared_hall.specs.Times.{is_retirement};
 ghost use Rattle.shared_hall.specs.Turns.{retire_outcome, retires};
 
 use crate::places::{HallCore, Place};
-use crate::works::{Asking, HallAnswer, HallWork, Taking, Ticking};
+use crate::works::{Asking, AskingPart, HallAnswer, HallWork, Taking, Ticking};
 use durable_core::DurableCore;
 use outside::Disk;
+use repl_stream::{Ask, FeedApi, PartAnswer, PartBytes};
 use std::alloc::Global;
 use std::snapshot::Snapshot;
 use std::sync::Wait;
@@ -216,6 +217,27 @@ impl<D: Disk + Drop> HallApi for SharedHall<D> {
     fn step_rewrite<R: Wait>(&self, rt: &R, seat: &mut HallSeat<D>) -> (CallOutcome, LogState) {
         match self.turn(rt, seat, HallWork::StepRewrite) {
             HallAnswer::Rewrote(called, log) => (called, log),
+            _ => unreachable!(),
+        }
+    }
+}
+
+impl<D: Disk + Drop> FeedApi for SharedHall<D> {
+    ghost use Rattle.shared_hall.specs.Seats.{AnswersAsk, first_writing, handed_of};
+    ghost use Rattle.shared_hall.specs.Cores.{tells};
+
+    ghost answers = { λ hall k ask part bytes. AnswersAsk (tells D.crashes D.seen (handed_of hall)) (first_writing hall)
+        k ask part bytes };
+
+    fn log_part<R: Wait>(
+        &self,
+        rt: &R,
+        seat: &mut HallSeat<D>,
+        ask: Ask,
+        into: PartBytes,
+    ) -> (PartAnswer, PartBytes) {
+        match self.turn(rt, seat, HallWork::Part(AskingPart { ask, into })) {
+            HallAnswer::Parted(given, into) => (given, into),
             _ => unreachable!(),
         }
     }

@@ -5,6 +5,7 @@ ghost use Rattle.std.specs.List.{list_all};
 ghost use Rattle.world_data.specs.Limits.{max_moment, take_frames};
 ghost use Rattle.world_model.specs.Outcomes.{is_proper};
 
+use repl_stream::{Ask, PartAnswer, PartBytes};
 use world_model::{
     Answers, AskedList, CallOutcome, ChangedSessions, EnterFault, Frames, LogState, Taken,
 };
@@ -36,6 +37,13 @@ pub struct Ticking {
     ghost early: { moment ≤ max_moment },
 }
 
+/// What a follower asks for, and the place for the bytes that it is given.
+#[derive(Drop)]
+pub struct AskingPart {
+    pub ask: Ask,
+    pub into: PartBytes,
+}
+
 /// One call of the hall.
 #[derive(Drop)]
 pub enum HallWork {
@@ -46,6 +54,7 @@ pub enum HallWork {
     Close(u32),
     Remove(u32),
     StepRewrite,
+    Part(AskingPart),
     Retire,
 }
 
@@ -58,6 +67,8 @@ pub enum HallAnswer<D> {
     Ticked(CallOutcome, ChangedSessions),
     /// How a step of rewriting ended, and how large the log is then.
     Rewrote(CallOutcome, LogState),
+    /// What an ask was answered out of the log.
+    Parted(PartAnswer, PartBytes),
     /// The disk, where it was in, and how the retirement ended.
     Retired(Option<(D, CallOutcome)>),
     Done,

@@ -44,6 +44,11 @@ returns-in-StepRewrite-clause-turn g c = let m = g.D.Disk in
     subst (λ (w : HallWork). TurnsBy m.crashes m.seen m.images m.moment m.left_since m.faults (acts w (given.Rewrote c.step_rewrite-called.result.0 c.step_rewrite-called.result.1)) (disk_in c.step_rewrite-called.new.self.before.value) c.args.core.now.place c.step_rewrite-called.new.self.place) (sym c.in-StepRewrite.is)
     (acts_alone m.crashes m.seen m.images m.moment m.left_since m.faults (event.Rewrite, outcome.Answered c.step_rewrite-called.result.0) c.args.core.now.place c.step_rewrite-called.new.self.place c.step_rewrite-called.new.self.before.value c.step_rewrite-called.ensures.before c.step_rewrite-called.ensures.act)
 
+pub returns-in-Part-clause-turn : goal.returns-in-Part-clause-turn
+returns-in-Part-clause-turn g c = let m = g.D.Disk in
+    subst (λ (w : HallWork). TurnsBy m.crashes m.seen m.images m.moment m.left_since m.faults (acts w (c.answer_part.result)) (disk_in c.answer_part.new.core.before.value) c.args.core.now.place c.answer_part.new.core.place) (sym c.in-Part.is)
+    (c.answer_part.ensures.turn)
+
 pub returns-in-Retire-clause-turn : goal.returns-in-Retire-clause-turn
 returns-in-Retire-clause-turn g c = let m = g.D.Disk in
     subst (λ (w : HallWork). TurnsBy m.crashes m.seen m.images m.moment m.left_since m.faults (acts w (given.Retired c.retire.result)) (disk_in c.retire.new.self.before.value) c.args.core.now.place c.retire.new.self.place) (sym c.in-Retire.is)
