@@ -323,8 +323,8 @@ done_last told terms k d w places joined starved is_over none why old t t' feeds
 
 -- ---- the end
 
-module _ (told : Option ℕ) (answers : Knows → Ask → Part → Bytes → Type 0) (terms : Terms) (old : Around) (t : Tending) (feeds : List Feed) (s : LoopState) (h : Holds told terms old t feeds s)
-    (by : AllByRecursion (FedBy answers terms) feeds) (none : NoneOpen s.places) (k : Knows) (last : List Act)
+module _ (told : Option ℕ) (answers : Knows → Ask → Part → Bytes → Type 0) (terms : Terms) (old : Around) (t : Tending)
+    (feeds : List Feed) (s : LoopState) (h : Holds told terms old t feeds s) (by : AllByRecursion (FedBy answers terms) feeds) (none : NoneOpen s.places) (k : Knows) (last : List Act)
     (gains : Gains s.around.knows k last) (e : ServeEnd) (ends : LoopEndsBy e told terms t last old (around k s.around.door s.around.wait) s.joined h.runs)
     (within : s.joined ≤ terms.limit) (removed : e ≡ end.Done → AreRemoved h.steps h.runs) where
   ends_so : ServesReady told answers terms old (around k s.around.door s.around.wait) s.joined s.starved e
@@ -362,8 +362,10 @@ none_last : (k k' : Knows) → k ≡ k' → Gains k k' []
 none_last k k' is = sym is
 
 -- what of the loop's end is said of the one that waits, after the rest was shut
-pub serves_end : (told : Option ℕ) (answers : Knows → Ask → Part → Bytes → Type 0) (terms : Terms) (old : Around) (t : Tending) (feeds : List Feed) (k : Knows) (d : DoorState) (w w' : WaitState) (places : Places) (joined starved : ℕ)
-    (is_over : Bool) (e : ServeEnd) → AllByRecursion (FedBy answers terms) feeds → joined ≤ terms.limit → Leaves told terms old t feeds (loop_state k d w places joined starved is_over true) (Some e) → (e ≡ end.Done → w' ≡ w)
+pub serves_end : (told : Option ℕ) (answers : Knows → Ask → Part → Bytes → Type 0) (terms : Terms) (old : Around) (t : Tending) (feeds : List Feed)
+    (k : Knows) (d : DoorState) (w w' : WaitState) (places : Places) (joined starved : ℕ)
+    (is_over : Bool) (e : ServeEnd) → AllByRecursion (FedBy answers terms) feeds → joined ≤ terms.limit
+    → Leaves told terms old t feeds (loop_state k d w places joined starved is_over true) (Some e) → (e ≡ end.Done → w' ≡ w)
     → ((e ≡ end.Done → ⊥) → (mid : Knows) → (goes_on : Bool)
     → Keeps told terms (loop_state mid d w places joined starved is_over goes_on) (loop_state mid d w' [] joined starved is_over false))
     → w'.faults ≡ w.faults → ServesReady told answers terms old (around k d w') joined starved e
@@ -376,18 +378,23 @@ serves_end told answers terms old t feeds k d w w' places joined starved is_over
     why (inl is) = inl (l.2.over_cause is)
     why (inr is) = inr is
 serves_end told answers terms old t feeds k d w w' places joined starved is_over end.DoorFault by within l done rest faults =
-    ends_so told answers terms old l.1 feeds (loop_state l.0 d w' [] joined starved is_over false) (rest (λ is. absurd (cc)) l.0 false old l.1 feeds l.2) by nobody k [] (none_last l.0 k l.3.0)
+    ends_so told answers terms old l.1 feeds (loop_state l.0 d w' [] joined starved is_over false)
+    (rest (λ is. absurd (cc)) l.0 false old l.1 feeds l.2) by nobody k [] (none_last l.0 k l.3.0)
     end.DoorFault (refl, subst (λ (n : ℕ). Rose old.door.faults d.faults ⊎ Rose old.wait.faults n) (sym faults) l.3.1) within (λ e. absurd (cc))
 serves_end told answers terms old t feeds k d w w' places joined starved is_over end.Stopped by within l done rest faults =
-    ends_so told answers terms old l.1 feeds (loop_state l.0 d w' [] joined starved is_over false) (rest (λ is. absurd (cc)) l.0 false old l.1 feeds l.2) by nobody k l.3.last l.3.gains
+    ends_so told answers terms old l.1 feeds (loop_state l.0 d w' [] joined starved is_over false)
+    (rest (λ is. absurd (cc)) l.0 false old l.1 feeds l.2) by nobody k l.3.last l.3.gains
     end.Stopped l.3.is_last within (λ e. absurd (cc))
 serves_end told answers terms old t feeds k d w w' places joined starved is_over end.Spent by within l done rest faults =
-    ends_so told answers terms old l.1 feeds (loop_state l.0 d w' [] joined starved is_over false) (rest (λ is. absurd (cc)) l.0 false old l.1 feeds l.2) by nobody k l.3.last l.3.gains
+    ends_so told answers terms old l.1 feeds (loop_state l.0 d w' [] joined starved is_over false)
+    (rest (λ is. absurd (cc)) l.0 false old l.1 feeds l.2) by nobody k l.3.last l.3.gains
     end.Spent l.3.is_last within (λ e. absurd (cc))
 serves_end told answers terms old t feeds k d w w' places joined starved is_over end.Memory by within l done rest faults = either l.3
   where
     either : (TendsLast told terms l.1 l.0 k end.Memory ⊎ (l.0 ≡ k)) → ServesReady told answers terms old (around k d w') joined starved end.Memory
-    either (inl x) = ends_so told answers terms old l.1 feeds (loop_state l.0 d w' [] joined starved is_over false) (rest (λ is. absurd (cc)) l.0 false old l.1 feeds l.2) by nobody k x.last x.gains
+    either (inl x) = ends_so told answers terms old l.1 feeds (loop_state l.0 d w' [] joined starved is_over false)
+        (rest (λ is. absurd (cc)) l.0 false old l.1 feeds l.2) by nobody k x.last x.gains
         end.Memory (inl x.is_last) within (λ e. absurd (cc))
-    either (inr is) = ends_so told answers terms old l.1 feeds (loop_state l.0 d w' [] joined starved is_over false) (rest (λ is. absurd (cc)) l.0 false old l.1 feeds l.2) by nobody k [] (none_last l.0 k is)
+    either (inr is) = ends_so told answers terms old l.1 feeds (loop_state l.0 d w' [] joined starved is_over false)
+        (rest (λ is. absurd (cc)) l.0 false old l.1 feeds l.2) by nobody k [] (none_last l.0 k is)
         end.Memory (inr refl) within (λ e. absurd (cc))

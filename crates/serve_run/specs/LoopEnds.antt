@@ -88,7 +88,8 @@ LoopTurn told terms s s' result = (t : Tending) → RoundTurn told terms t t s s
 -- the seat's own entries were made that were due
 abbrev pub KeepsAside : Option ℕ → Terms → Tending → Tending → Knows → Knows → Type 0
 KeepsAside told terms t t' k k' = (places : List (Option SessionState)) → (d : DoorState) → (w : WaitState) → (joined starved : ℕ)
-    → (is_over goes_on : Bool) → (old : Around) → (feeds : List Feed) → Holds told terms old t feeds (loop_state k d w places joined starved is_over goes_on)
+    → (is_over goes_on : Bool) → (old : Around) → (feeds : List Feed)
+    → Holds told terms old t feeds (loop_state k d w places joined starved is_over goes_on)
     → Holds told terms old t' feeds (loop_state k' d w places joined starved is_over goes_on)
 
 -- the same, or those behind them brought the end

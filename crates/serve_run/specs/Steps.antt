@@ -28,9 +28,9 @@ use Rattle.serve_run.specs.Tends.{IsTold, AreFew, AreBelow, serve_end, rewrite_a
 -- rewritten, and was answered so; the same, where the Enter was refused; the caller of this number, and how the Enter for it was
 -- answered; the calls of a session in one turn, at a moment: of these requests so many were answered Ok, and then all or the next one so; an
 -- ask of a session, the only request of its turn at a moment, how it was answered out of the log, and the bytes that came with the part, where
--- one was given; a take of a session; its close; its removal. Behind the removal of a session, the first number, whose calls had set the channel of its live
--- fence: a session of the server's own, which asked at a moment that the channel be deleted, and was answered so; the same, where the Enter
--- was refused; the same, where there was no memory to ask
+-- one was given; a take of a session; its close; its removal. Behind the removal of a session, the first number, whose calls had set the
+-- channel of its live fence: a session of the server's own, which asked at a moment that the channel be deleted, and was answered so; the same,
+-- where the Enter was refused; the same, where there was no memory to ask
 pub data Step : Type 0 where
   Tended : ℕ → ℕ → LogState → Step
   Wanting : ℕ → Option ℕ → CallOutcome → Step

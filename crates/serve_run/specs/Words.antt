@@ -14,8 +14,9 @@ use Rattle.serve_run.specs.Options.{begins_with, flag_rule, needed_rule, option_
 use Rattle.serve_run.specs.declared.words.ServeWords.{ServeWords}
 use Rattle.serve_run.specs.declared.words.TheConstants.{MOST_LINKS, MOST_IDLE, MOST_SHRINK_AT, SHRINK_AT, MOST_FOLLOWERS}
 
--- Where to listen, and for whom; how many callers are served; behind how many seconds without a request a link is ended, or 0 for never; by how many per
--- cent the log grows until it is rewritten, or 0 for never; how many sessions may be followers at a time; and whether the end of standard input asks for the end.
+-- Where to listen, and for whom; how many callers are served; behind how many seconds without a request a link is ended, or 0 for never; by
+-- how many per cent the log grows until it is rewritten, or 0 for never; how many sessions may be followers at a time; and whether the end of
+-- standard input asks for the end.
 pub record Serve : Type 0 where
   pub port : OpenedAt
   pub limit : ℕ
@@ -25,7 +26,14 @@ pub record Serve : Type 0 where
   pub until_end : Bool
 
 abbrev pub asked_of : ServeWords → Serve
-asked_of w = record { port = opened_at w.port; limit = w.limit; idle = w.idle; shrink_at = w.shrink_at; followers = w.followers; until_end = w.until_end }
+asked_of w = record {
+  port = opened_at w.port;
+  limit = w.limit;
+  idle = w.idle;
+  shrink_at = w.shrink_at;
+  followers = w.followers;
+  until_end = w.until_end;
+}
 
 -- `NAME ADDR [--sessions N] [--idle SECONDS] [--shrink-at PERCENT] [--followers N] [--until-stdin-ends] [--origin LIST]`
 unfoldable pub link_app : Bytes → App

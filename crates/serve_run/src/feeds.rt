@@ -44,8 +44,8 @@ fn answers_of(answer: PartAnswer) -> Answers
     Answers { served, end }
 }
 
-/// Answers an ask out of the log, the one request of a session's turn, and gives the session the part. Whether there was
-/// one.
+/// Answers an ask out of the log, the one request of a session's turn, and gives the session the part. Whether there
+/// was one.
 pub(crate) fn feed<H: FeedApi, K: ReadyLink + Drop, R: Wait>(
     rt: &R,
     hall: &H,

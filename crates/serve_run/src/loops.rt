@@ -157,7 +157,8 @@ where
     ensures places { work.new.frames.places ≡ take_frames }
     ensures pace { work.new.pace ≡ work.old.pace }
     ensures keeps { (told : Option ℕ) → IsTold told moment
-        → FeedsShutTo (FedBy (H.answers hall.now) terms) told terms (H.HallApi.knows seat.old) (H.HallApi.knows seat.new)
+        → FeedsShutTo (FedBy (H.answers hall.now) terms) told terms
+        (H.HallApi.knows seat.old) (H.HallApi.knows seat.new)
         (W.shows wait.old) (W.shows wait.new) table.old.items table.new.items result.0 }
 {
     let (block, part) = (&mut work.block, &mut work.part);
@@ -207,7 +208,8 @@ where
     ensures places { work.new.frames.places ≡ take_frames }
     ensures room { counts.new.joined ≤ terms.limit }
     ensures few { counts.new.starved ≤ counts.new.joined }
-    ensures turn { FeedsTurn (FedBy (H.answers hall.now) terms) (C.told clock.now) terms work.old.pace.tending work.new.pace.tending
+    ensures turn { FeedsTurn (FedBy (H.answers hall.now) terms) (C.told clock.now) terms
+        work.old.pace.tending work.new.pace.tending
         (loop_state (H.HallApi.knows seat.old) (D.shows door.old) (W.shows wait.old) table.old.items
         counts.old.joined counts.old.starved counts.old.is_over true)
         (loop_state (H.HallApi.knows seat.new) (D.shows door.new) (W.shows wait.new) table.new.items
@@ -266,7 +268,8 @@ where
     requires few { counts.old.starved ≤ counts.old.joined }
     ensures seat { H.HallApi.is_of hall.now seat.new }
     ensures room { counts.new.joined ≤ terms.limit }
-    ensures turn { FeedsTurn (FedBy (H.answers hall.now) terms) (C.told clock.now) terms work.old.pace.tending work.new.pace.tending
+    ensures turn { FeedsTurn (FedBy (H.answers hall.now) terms) (C.told clock.now) terms
+        work.old.pace.tending work.new.pace.tending
         (loop_state (H.HallApi.knows seat.old) (D.shows door.old) (W.shows wait.old) table.old.items
         counts.old.joined counts.old.starved counts.old.is_over true)
         (loop_state (H.HallApi.knows seat.new) (D.shows door.new) (W.shows wait.new) table.new.items

@@ -48,7 +48,8 @@ fn one_in<H: FeedApi, K: ReadyLink + Drop, R: Wait>(
     requires within { place < length table.old.items }
     ensures seat { H.HallApi.is_of hall.now seat.new }
     ensures keeps { (told : Option ℕ) → IsTold told moment
-        → FeedsTable (FedBy (H.answers hall.now) terms) told terms (H.HallApi.knows seat.old) (H.HallApi.knows seat.new) table.old.items table.new.items }
+        → FeedsTable (FedBy (H.answers hall.now) terms) told terms
+        (H.HallApi.knows seat.old) (H.HallApi.knows seat.new) table.old.items table.new.items }
     ensures length { length table.new.items ≡ length table.old.items }
     ensures block { length block.new ≡ length block.old }
 {
@@ -78,7 +79,8 @@ pub(crate) fn all_in<H: FeedApi, K: ReadyLink + Drop, R: Wait>(
     requires some { 0 < length block.old }
     ensures seat { H.HallApi.is_of hall.now seat.new }
     ensures keeps { (told : Option ℕ) → IsTold told moment
-        → FeedsTable (FedBy (H.answers hall.now) terms) told terms (H.HallApi.knows seat.old) (H.HallApi.knows seat.new) table.old.items table.new.items }
+        → FeedsTable (FedBy (H.answers hall.now) terms) told terms
+        (H.HallApi.knows seat.old) (H.HallApi.knows seat.new) table.old.items table.new.items }
     ensures block { length block.new ≡ length block.old }
 {
     let mut touched = touched;

@@ -47,7 +47,8 @@ pub struct ServeWords<'a> {
     pub until_end: bool,
 }
 
-// `NAME ADDR [--sessions N] [--idle SECONDS] [--shrink-at PERCENT] [--followers N] [--until-stdin-ends] [--origin LIST]`
+// `NAME ADDR [--sessions N] [--idle SECONDS] [--shrink-at PERCENT] [--followers N] [--until-stdin-ends]
+// [--origin LIST]`
 fn link_command<'a>(alloc: Global, name: &'a str) -> Result<Command<'a>, NoMemory>
     ensures { IfOk result (λ c. app_of c ≡ link_app name.now) }
 {

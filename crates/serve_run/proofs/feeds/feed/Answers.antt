@@ -1,4 +1,4 @@
-use Rattle.std.proofs.Common.{ap, subst, sym, ◌∷◌, []}
+use Rattle.std.proofs.Common.{subst, ◌∷◌, []}
 use Rattle.byte_text.specs.Names.{Bytes}
 use Rattle.world_model.specs.declared.events.Outcome.TheVariants as outcome
 use Rattle.repl_stream.specs.Feeds.{bytes_in}
@@ -16,7 +16,8 @@ returns-in-Given-clause-steps g c = λ told moment timely.
     c.requires.moved c.requires.ready c.requires.ask c.log_part-answer.ensures.entry c.answers_of.ensures.served c.answers_of.ensures.end
     c.on_answered.ensures.answered c.on_answered.ensures.fenced c.on_answered.ensures.demand
     c.on_part.new.self c.in-Given.part c.in-Given.is
-    (subst (λ (l : Bytes). Takes c.on_answered.new.self c.on_part.new.self (outcome.Given (part_text c.in-Given.part l ∷ []))) c.bytes.ensures.bytes c.on_part.ensures.takes)
+    (subst (λ (l : Bytes). Takes c.on_answered.new.self c.on_part.new.self (outcome.Given (part_text c.in-Given.part l ∷ [])))
+    c.bytes.ensures.bytes c.on_part.ensures.takes)
 
 pub returns-in_default-clause-steps : goal.returns-in_default-clause-steps
 returns-in_default-clause-steps g c = λ told moment timely.

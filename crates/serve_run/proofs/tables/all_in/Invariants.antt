@@ -1,6 +1,5 @@
 use Rattle.std.proofs.Common.{◌≡◌, ℕ, length}
 use Rattle.std.specs.Prelude.{Option}
-use Rattle.serve_run.specs.declared.terms.Terms.{Terms}
 use Rattle.serve_run.specs.Tends.{IsTold}
 use Rattle.serve_run.specs.LoopStates.{FeedsTable}
 use Rattle.serve_run.specs.Feeds.{FedBy}
@@ -12,5 +11,6 @@ invariant-loop-place g l = record {
   ends : l.place-end ≡ length l.table.items;
   block : length l.block ≡ length l.initial.block;
   keeps : (told : Option ℕ) → IsTold told l.moment
-      → FeedsTable (FedBy (g.H.FeedApi.answers l.hall) l.terms) told l.terms (g.H.HallApi.knows l.initial.seat) (g.H.HallApi.knows l.seat) l.initial.table.items l.table.items;
+      → FeedsTable (FedBy (g.H.FeedApi.answers l.hall) l.terms) told l.terms (g.H.HallApi.knows l.initial.seat)
+      (g.H.HallApi.knows l.seat) l.initial.table.items l.table.items;
 }

@@ -14,7 +14,8 @@ returns-in-Some-clause-keeps g c = λ told timely.
     let there : slice_get c.args.table.now.items c.args.place ≡ Some (Some c.in-Some.session) =
     slice_get_read c.args.table.now.items (length c.args.table.now.items) c.args.place c.index_mut.result.now refl c.requires.within c.index_mut.ensures.value
     ∙ ap (λ (p : Option SessionState). Some p) c.in-Some.is in
-    feeds_step (FedBy (g.H.FeedApi.answers c.args.hall.now) c.args.terms) told c.args.terms (g.H.HallApi.knows c.args.seat.now) (g.H.HallApi.knows c.step_in.new.seat) c.args.table.now.items c.args.place c.in-Some.session
+    feeds_step (FedBy (g.H.FeedApi.answers c.args.hall.now) c.args.terms) told c.args.terms (g.H.HallApi.knows c.args.seat.now)
+    (g.H.HallApi.knows c.step_in.new.seat) c.args.table.now.items c.args.place c.in-Some.session
     c.step_in.new.session there (c.step_in.ensures.steps told timely)
 
 pub returns-in-None-clause-keeps : goal.returns-in-None-clause-keeps
