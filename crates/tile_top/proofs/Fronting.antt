@@ -36,6 +36,7 @@ use Rattle.serve_run.specs.LoopServes.{ServesLoop}
 use Rattle.outside.specs.Doors.{DoorState}
 use Rattle.outside.specs.Waits.{WaitState}
 use Rattle.world_model.specs.declared.events.Opening.{Opening}
+use Rattle.shared_hall.specs.Seats.{AnswersAsk}
 use Rattle.shared_hall.specs.Times.{is_retirement}
 use Rattle.shared_hall.specs.Turns.{retire_outcome}
 use Rattle.replay_run.specs.Openings.{IsDamagedAt}
@@ -226,18 +227,18 @@ opened_as {D} core c s same idle generation =
     ∙ ap (λ (n : ℕ). record { rewriting = Idle; generation = n }) generation
 
 -- a hall was retired behind its serving
-pub fronts_behind : {F : Type 0} (shows : F → Knows) (seen : Option Sides) (told : Option ℕ) (s : Serve) (first served : Knows) (door door' : DoorState) (wait wait' : WaitState) (held between held' : Option Bytes) (before status : ℕ) (front : Option F)
-    → IsFirst seen first → ServesLoop told s (around first door wait) (around served door' wait') held between before
-    → IfSome (option_map shows front) (λ k. IsRetired served k between held' before status) → IfSome (option_map shows front) (ServesFront seen told s door door' wait wait' held held' status)
-fronts_behind shows seen told s first served door door' wait wait' held between held' before status None f v r = tt
-fronts_behind shows seen told s first served door door' wait wait' held between held' before status (Some x) f v r =
-    record { first = first; is_first = f; served = served; between = between; before = before; serves = v; retired = r }
+pub fronts_behind : {F : Type 0} (shows : F → Knows) (tell : Bool) (seen : Option Sides) (writing : Writing) (told : Option ℕ) (s : Serve) (first served : Knows) (door door' : DoorState) (wait wait' : WaitState) (held between held' : Option Bytes) (before status : ℕ) (front : Option F)
+    → IsFirst seen first → ((sides : Sides) → seen ≡ Some sides → writing ≡ opened_writing sides) → ServesLoop told (AnswersAsk tell writing) s (around first door wait) (around served door' wait') held between before
+    → IfSome (option_map shows front) (λ k. IsRetired served k between held' before status) → IfSome (option_map shows front) (ServesFront tell seen told s door door' wait wait' held held' status)
+fronts_behind shows tell seen writing told s first served door door' wait wait' held between held' before status None f b v r = tt
+fronts_behind shows tell seen writing told s first served door door' wait wait' held between held' before status (Some x) f b v r =
+    record { first = first; is_first = f; writing = writing; begun = b; served = served; between = between; before = before; serves = v; retired = r }
 
 pub mapped_some : {F : Type 0} (shows : F → Knows) (front : Option F) → is_some front ≡ true → is_some (option_map shows front) ≡ true
 mapped_some shows None some = absurd (cc)
 mapped_some shows (Some x) some = refl
 
-pub fronts_of : (seen : Option Sides) (Back : Halt → Type 0) (told : Option ℕ) (s : Serve) (door door' : DoorState) (wait wait' : WaitState) (held held' : Option Bytes) (status : ℕ) (front : Option Knows) → is_some front ≡ true
-    → IfSome front (ServesFront seen told s door door' wait wait' held held' status) → Fronts seen Back told s door door' wait wait' held held' status front
-fronts_of seen Back told s door door' wait wait' held held' status None some v = absurd (cc)
-fronts_of seen Back told s door door' wait wait' held held' status (Some k) some v = v
+pub fronts_of : (tell : Bool) (seen : Option Sides) (Back : Halt → Type 0) (told : Option ℕ) (s : Serve) (door door' : DoorState) (wait wait' : WaitState) (held held' : Option Bytes) (status : ℕ) (front : Option Knows) → is_some front ≡ true
+    → IfSome front (ServesFront tell seen told s door door' wait wait' held held' status) → Fronts tell seen Back told s door door' wait wait' held held' status front
+fronts_of tell seen Back told s door door' wait wait' held held' status None some v = absurd (cc)
+fronts_of tell seen Back told s door door' wait wait' held held' status (Some k) some v = v

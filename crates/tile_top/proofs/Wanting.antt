@@ -46,10 +46,10 @@ pub load_unasked : (words : List Bytes) (s : Serve) (held held' : Option Bytes) 
 load_unasked words s held held' status is = subst (λ (o : Option LoadWords). IfSome o (λ w. Loads w held held' status)) (sym (loads_not words s is)) tt
 
 -- no hall was made, and nothing was touched
-unmade : (seen : Option Sides) (Back : Halt → Type 0) (told : Option ℕ) (o : Option Serve) (door : DoorState) (wait : WaitState) (held held' : Option Bytes) (status : ℕ)
-    → Back halted.Memory → IsEnd held held' 7 memory_line status → IfSome o (λ s. Fronts seen Back told s door door wait wait held held' status None)
-unmade seen Back told None door wait held held' status back end = tt
-unmade seen Back told (Some s) door wait held held' status back end = record {
+unmade : (tell : Bool) (seen : Option Sides) (Back : Halt → Type 0) (told : Option ℕ) (o : Option Serve) (door : DoorState) (wait : WaitState) (held held' : Option Bytes) (status : ℕ)
+    → Back halted.Memory → IsEnd held held' 7 memory_line status → IfSome o (λ s. Fronts tell seen Back told s door door wait wait held held' status None)
+unmade tell seen Back told None door wait held held' status back end = tt
+unmade tell seen Back told (Some s) door wait held held' status back end = record {
   same_door = refl;
   same_wait = refl;
   why = halted.Memory;
@@ -60,14 +60,14 @@ unmade seen Back told (Some s) door wait held held' status back end = record {
 }
 
 -- the same, by what is handed out
-pub front_wanting : {D F : Type 0} (shows : F → Knows) (seen : Option Sides) (IsBack : D → Halt → Type 0) (told : Option ℕ) (o : Option Serve) (door : DoorState) (wait : WaitState) (held held' : Option Bytes) (ended status : ℕ) (disk : D) (left : Option D) (front : Option F)
+pub front_wanting : {D F : Type 0} (shows : F → Knows) (tell : Bool) (seen : Option Sides) (IsBack : D → Halt → Type 0) (told : Option ℕ) (o : Option Serve) (door : DoorState) (wait : WaitState) (held held' : Option Bytes) (ended status : ℕ) (disk : D) (left : Option D) (front : Option F)
     → left ≡ Some disk → front ≡ None → status ≡ ended → IsBack disk halted.Memory → IsEnd held held' 7 memory_line ended
-    → IfSome o (λ s. Fronts seen (λ halt. IfSome left (λ d. IsBack d halt)) told s door door wait wait held held' status (option_map shows front))
-front_wanting {D} {F} shows seen IsBack told o door wait held held' ended status disk left front is none at back end =
-    subst (λ (l : Option D). IfSome o (λ s. Fronts seen (λ halt. IfSome l (λ d. IsBack d halt)) told s door door wait wait held held' status (option_map shows front))) (sym is)
-    (subst (λ (f : Option F). IfSome o (λ s. Fronts seen (IsBack disk) told s door door wait wait held held' status (option_map shows f))) (sym none)
-    (subst (λ (n : ℕ). IfSome o (λ s. Fronts seen (IsBack disk) told s door door wait wait held held' n None)) (sym at)
-    (unmade seen (IsBack disk) told o door wait held held' ended back end)))
+    → IfSome o (λ s. Fronts tell seen (λ halt. IfSome left (λ d. IsBack d halt)) told s door door wait wait held held' status (option_map shows front))
+front_wanting {D} {F} shows tell seen IsBack told o door wait held held' ended status disk left front is none at back end =
+    subst (λ (l : Option D). IfSome o (λ s. Fronts tell seen (λ halt. IfSome l (λ d. IsBack d halt)) told s door door wait wait held held' status (option_map shows front))) (sym is)
+    (subst (λ (f : Option F). IfSome o (λ s. Fronts tell seen (IsBack disk) told s door door wait wait held held' status (option_map shows f))) (sym none)
+    (subst (λ (n : ℕ). IfSome o (λ s. Fronts tell seen (IsBack disk) told s door door wait wait held held' n None)) (sym at)
+    (unmade tell seen (IsBack disk) told o door wait held held' ended back end)))
 
 -- whatever workload was asked for
 pub load_wanting : (o : Option LoadWords) (held held' : Option Bytes) (ended status : ℕ) → status ≡ ended → IsEnd held held' 7 memory_line ended

@@ -1,5 +1,5 @@
 -- What `serve` promises of the server's seat, the disk and the status.
-use Rattle.std.specs.Prelude.{◌≡◌, ◌≢◌, ◌⊎◌, ◌≤◌, ℕ, min, true, false, List, [], ◌∷◌, ◌++◌, Option, None, Some}
+use Rattle.std.specs.Prelude.{◌≡◌, ◌≢◌, ◌⊎◌, ◌≤◌, ℕ, min, Bool, true, false, List, [], ◌∷◌, ◌++◌, Option, None, Some}
 use Rattle.std.specs.List.{list_any}
 use Rattle.byte_text.specs.Names.{Bytes}
 use Rattle.outside.specs.Causes.{most_count}
@@ -25,6 +25,7 @@ use Rattle.serve_run.specs.Loops.{around}
 use Rattle.serve_run.specs.LoopServes.{ServesLoop}
 use Rattle.outside.specs.Doors.{DoorState}
 use Rattle.outside.specs.Waits.{WaitState}
+use Rattle.shared_hall.specs.Seats.{AnswersAsk}
 use Rattle.shared_hall.specs.Times.{is_retirement}
 use Rattle.replay_run.specs.Openings.{Opens, IsDamagedAt}
 use Rattle.replay_run.specs.declared.halts.Halt.{Halt}
@@ -100,19 +101,23 @@ abbrev pub IsRewritten : {D : Type 0} → (D → Option Sides) → D → D → K
 IsRewritten seen handed disk k = (s : Sides) → seen handed ≡ Some s → IsWrittenFrom seen (opened_writing s) disk k
 
 -- A shared hall of the disk's world was made, and links were served in a loop up to an end; then it was retired. The server's seat has seen
--- a legal history, and its own entries are those of the serving, and the retirement.
-pub record ServesFront (seen : Option Sides) (told : Option ℕ) (s : Serve) (door door' : DoorState) (wait wait' : WaitState)
+-- a legal history, and its own entries are those of the serving, and the retirement. Each part that a follower was given is of the log to which
+-- that history had led then, from the opening of the disk on: where the disk told its contents and what a crash may leave, of whole batches
+-- that make the world of the history so far.
+pub record ServesFront (tell : Bool) (seen : Option Sides) (told : Option ℕ) (s : Serve) (door door' : DoorState) (wait wait' : WaitState)
     (held held' : Option Bytes) (status : ℕ) (k : Knows) : Type 0 where
   pub first : Knows
   pub is_first : IsFirst seen first
+  pub writing : Writing
+  pub begun : (sides : Sides) → seen ≡ Some sides → writing ≡ opened_writing sides
   pub served : Knows
   pub between : Option Bytes
   pub before : ℕ
-  pub serves : ServesLoop told s (around first door wait) (around served door' wait') held between before
+  pub serves : ServesLoop told (AnswersAsk tell writing) s (around first door wait) (around served door' wait') held between before
   pub retired : IsRetired served k between held' before status
 
 -- by what the server's seat has seen, where a hall was made
-abbrev pub Fronts : Option Sides → (Halt → Type 0) → Option ℕ → Serve → DoorState → DoorState → WaitState → WaitState → Option Bytes
+abbrev pub Fronts : Bool → Option Sides → (Halt → Type 0) → Option ℕ → Serve → DoorState → DoorState → WaitState → WaitState → Option Bytes
     → Option Bytes → ℕ → Option Knows → Type 0
-Fronts seen Back told s door door' wait wait' held held' status None = IsUnmade seen Back door door' wait wait' held held' status
-Fronts seen Back told s door door' wait wait' held held' status (Some k) = ServesFront seen told s door door' wait wait' held held' status k
+Fronts tell seen Back told s door door' wait wait' held held' status None = IsUnmade seen Back door door' wait wait' held held' status
+Fronts tell seen Back told s door door' wait wait' held held' status (Some k) = ServesFront tell seen told s door door' wait wait' held held' status k

@@ -135,7 +135,9 @@ where
     requires seat { IsOf D.crashes D.seen D.images D.moment D.left_since D.faults hall.now seat }
     requires first { (knows_of seat).first ≡ true }
     ensures serves { (seen : Option Sides) → IsFirst seen (knows_of seat)
-        → IfSome (option_map knows_of result.front) (ServesFront seen (C.told clock.now)
+        → ((s : Sides) → seen ≡ Some s → first_writing hall.now ≡ opened_writing s)
+        → IfSome (option_map knows_of result.front)
+        (ServesFront (tells D.crashes D.seen (handed_of hall.now)) seen (C.told clock.now)
         (asked_of asked.entry)
         (L.shows door.old) (L.shows door.new) (W.shows wait.old) (W.shows wait.new)
         (K.held sink.old) (K.held sink.new) result.status) }
@@ -181,7 +183,7 @@ pub(crate) fn serve_hall<
 ) -> Ended<D>
 where
     L::Link: Drop,
-    ensures serves { Fronts (D.seen disk)
+    ensures serves { Fronts (tells D.crashes D.seen disk) (D.seen disk)
         (λ halt. IfSome result.disk (λ d. IsBackAt D.crashes D.seen D.images D.moment D.left_since disk d halt))
         (C.told clock.now)
         (asked_of asked.entry)

@@ -229,7 +229,7 @@ where
     ensures read_alone { IsBacktest (map string_bytes words.now)
         → IfSome result.disk
         (λ d. IsReadAlone D.crashes D.seen D.images D.moment D.left_since disk d result.status) }
-    ensures serve { IfSome (serve_of (map string_bytes words.now)) (λ s. Fronts (D.seen disk)
+    ensures serve { IfSome (serve_of (map string_bytes words.now)) (λ s. Fronts (tells D.crashes D.seen disk) (D.seen disk)
         (λ halt. IfSome result.disk (λ d. IsBackAt D.crashes D.seen D.images D.moment D.left_since disk d halt))
         (C.told clock.now) s
         (L.shows door.old) (L.shows door.new) (W.shows wait.old) (W.shows wait.new)

@@ -16,6 +16,7 @@ use Rattle.replay_run.specs.declared.halts.Halt.{Halt}
 use Rattle.tile_top.specs.Tops.{Replays, usage_line}
 use Rattle.tile_top.specs.Backtests.{Backtests}
 use Rattle.tile_top.specs.Checks.{Checks}
+use Rattle.shared_hall.specs.Cores.{tells}
 use Rattle.tile_top.proofs.Wanting.{front_wanting, load_unasked, load_wanting, not_alone}
 use Rattle.tile_top.proofs.tops.top.Goals as goal
 
@@ -72,7 +73,7 @@ pub returns-in-Err-clause-serve : goal.returns-in-Err-clause-serve
 returns-in-Err-clause-serve g c =
     let w = c.without_hall in
     let disk = c.args.disk in
-    front_wanting knows_of (g.D.Disk.seen disk) (IsBackAt g.D.Disk.crashes g.D.Disk.seen g.D.Disk.images g.D.Disk.moment g.D.Disk.left_since disk) (g.C.Clock.told c.args.clock.now) _ (g.L.ReadyDoor.shows c.args.door.now)
+    front_wanting knows_of (tells g.D.Disk.crashes g.D.Disk.seen disk) (g.D.Disk.seen disk) (IsBackAt g.D.Disk.crashes g.D.Disk.seen g.D.Disk.images g.D.Disk.moment g.D.Disk.left_since disk) (g.C.Clock.told c.args.clock.now) _ (g.L.ReadyDoor.shows c.args.door.now)
     (g.W.WaitForLinks.shows c.args.wait.now) (g.K.Sink.held c.args.sink.now) (g.K.Sink.held c.end.new.sink) c.end.result w.result.status disk w.result.disk w.result.front w.ensures.disk w.ensures.front w.ensures.status
     (fault_of.Memory, refl, untouched g.D.Disk.crashes g.D.Disk.seen g.D.Disk.images g.D.Disk.moment g.D.Disk.left_since disk fault_of.Memory) c.end.ensures.told
 
