@@ -1,6 +1,7 @@
 //! The record of a change is written.
 
-ghost use Rattle.std.specs.Prelude.{◌≡◌, ◌++◌, ◌∷◌, [], ◌+◌, ◌*◌, ◌≤◌, true, codes, length, take, OnOk, OnErr};
+ghost use Rattle.std.specs.Prelude.{◌≡◌, ◌++◌, ◌∷◌, [], ◌+◌, ◌*◌, ◌≤◌, true, codes, length, take, decimal, OnOk, OnErr};
+ghost use Rattle.byte_text.specs.Lines.{line, bulk_text};
 ghost use Rattle.world_data.specs.Records.{is_kept, deadline_words, record_writer, record_reader};
 ghost use Rattle.world_data.specs.declared.worlds.Change.TheVariants as change;
 
@@ -27,6 +28,45 @@ fn put_count(object: &Object) -> u128
     5 + 3 * object.fields.len() as u128 + deadline_count(object.deadline)
 }
 
+// Appends the head of five words and the word `SET`, as one piece.
+fn push_short_head(into: &mut Text) -> Result<(), NoMemory>
+    ensures ok { OnOk result (into.new ≡ into.old ++ (line 42 (decimal 5) ++ bulk_text (codes "SET"))) }
+    ensures err { OnErr result (into.new ≡ into.old) }
+{
+    into.push(b"*5\r\n$3\r\nSET\r\n")
+}
+
+// Appends the head of so many words, and the word `SET`.
+#[tactic(auto, using(byte_text::specs::TextLaws::kept))]
+fn push_long_head(into: &mut Text, count: u128) -> Result<(), NoMemory>
+    ensures ok { OnOk result (into.new ≡ into.old ++ (line 42 (decimal count) ++ bulk_text (codes "SET"))) }
+    ensures kept { take (length into.old) into.new ≡ into.old }
+{
+    push_array_head(into, count)?;
+    push_bulk(into, b"SET")
+}
+
+// The same: most objects have neither fields nor a deadline, so their records begin alike.
+#[tactic(auto, using(byte_text::specs::TextLaws::kept))]
+fn push_put_head(into: &mut Text, count: u128) -> Result<(), NoMemory>
+    ensures ok { OnOk result (into.new ≡ into.old ++ (line 42 (decimal count) ++ bulk_text (codes "SET"))) }
+    ensures kept { take (length into.old) into.new ≡ into.old }
+{
+    if count == 5 {
+        push_short_head(into)
+    } else {
+        push_long_head(into, count)
+    }
+}
+
+// Appends the word `OBJECT`, as one piece.
+fn push_object_word(into: &mut Text) -> Result<(), NoMemory>
+    ensures ok { OnOk result (into.new ≡ into.old ++ bulk_text (codes "OBJECT")) }
+    ensures err { OnErr result (into.new ≡ into.old) }
+{
+    into.push(b"$6\r\nOBJECT\r\n")
+}
+
 /// Appends the record of an object's put. At want of memory a part of it may stand behind what was there.
 #[tactic(auto, using(byte_text::specs::TextLaws::kept))]
 pub fn push_put(into: &mut Text, object: &Object) -> Result<(), NoMemory>
@@ -34,13 +74,12 @@ pub fn push_put(into: &mut Text, object: &Object) -> Result<(), NoMemory>
     ensures kept { take (length into.old) into.new ≡ into.old }
     ensures is_kept { OnOk result (is_kept (change.Put object.now) ≡ true) }
 {
-    push_array_head(into, put_count(object))?;
-    push_bulk(into, b"SET")?;
+    push_put_head(into, put_count(object))?;
     push_bulk(into, object.key.bytes())?;
     push_bulk(into, object.id.bytes())?;
     push_fields(into, &object.fields)?;
     push_deadline(into, object.deadline)?;
-    push_bulk(into, b"OBJECT")?;
+    push_object_word(into)?;
     push_bulk(into, object.text.bytes())
 }
 
