@@ -83,10 +83,10 @@ impl Slot {
     }
 
     /// The first entry, or the one entry.
-    pub(crate) fn first(&self) -> Entry
-        ensures { result ≡ self.now.first }
+    pub(crate) fn first(&self) -> &Entry
+        ensures { result.now ≡ self.now.first }
     {
-        self.first
+        &self.first
     }
 
     /// The box round all entries.
