@@ -169,12 +169,16 @@ covered : (from : Point) (h : ℕ) (s : Slot) → IsSlot h s → All (λ p. box_
 covered from h s slot =
     All-weaker (λ p. IsInside s.bounds p.bounds) (λ p. box_dist2 from s.bounds ≤ box_dist2 from p.bounds) (λ p inside. nearer-outer from s.bounds p.bounds inside) (slot_entries s) slot.summed.covers
 
+same_one : (one other : Bor Pair) → One one ≡ One other → one ≡ other
+same_one one other e = cc
+
 -- an entry is as far as the box of its slot
-pub near_one : (from : Point) (h : ℕ) (s : Slot) → IsSlot h s → s.below ≡ None → IsNear from (record { distance = box_dist2 from s.bounds; met = One s.first })
-near_one from h s slot none = record {
-  least = subst (All (λ p. box_dist2 from s.bounds ≤ box_dist2 from p.bounds)) (ap (entries_at s.first) none) (covered from h s slot);
-  exact = λ p e. let first : s.first ≡ p = cc in ap (box_dist2 from) (slot.summed.exact none ∙ ap (λ (q : Pair). q.bounds) first);
-}
+pub near_one : (from : Point) (h : ℕ) (s : Slot) (one : Bor Pair) → IsSlot h s → s.below ≡ None → one.now ≡ s.first → IsNear from (record { distance = box_dist2 from s.bounds; met = One one })
+near_one from h s one slot none is =
+    let only : slot_entries s ≡ one.now ∷ [] = ap (entries_at s.first) none ∙ ap (λ (q : Pair). q ∷ []) (sym is) in record {
+      least = subst (All (λ p. box_dist2 from s.bounds ≤ box_dist2 from p.bounds)) only (covered from h s slot);
+      exact = λ other e. let first : s.first ≡ other.now = sym is ∙ ap (λ (b : Bor Pair). b.now) (same_one one other e) in ap (box_dist2 from) (slot.summed.exact none ∙ ap (λ (q : Pair). q.bounds) first);
+    }
 
 -- the entries below a node are no nearer than the box of its slot
 pub near_below : (from : Point) (h : ℕ) (s : Slot) (n : Bor Subtree) → IsSlot h s → s.below ≡ Some n.now → IsNear from (record { distance = box_dist2 from s.bounds; met = Below n })

@@ -1,5 +1,6 @@
 -- What a walk by distance has met and not given yet, and what it gives.
 use Rattle.std.specs.Prelude.{ℕ, ◌≡◌, ◌≤◌, ◌<◌, Bool, Option, Some, None, List, [], ◌∷◌, ◌++◌, length, All, flat_map}
+use Rattle.std.specs.Borrow.{Bor}
 use Rattle.std.specs.List.{sum_by}
 use Rattle.std.specs.List.Sorted.{IsPermutation}
 use Rattle.std.specs.BinaryHeap.{IsHeap}
@@ -23,12 +24,12 @@ nearest_first = flip_args (on (λ w. w.distance) nat_cmp)
 
 -- the pairs of what was met
 abbrev pub met_pairs : Met → List Pair
-met_pairs (One p) = p ∷ []
+met_pairs (One e) = e.now ∷ []
 met_pairs (Below n) = n.now.entries
 
 -- how many nodes there are in what was met
 abbrev pub met_nodes : Met → ℕ
-met_nodes (One p) = 0
+met_nodes (One e) = 0
 met_nodes (Below n) = n.now.nodes
 
 -- the pairs of all that waits
@@ -46,7 +47,7 @@ walk from ws given_up = record { from = from; left = pairs_of ws; given_up = giv
 -- no pair of what waits is nearer than its distance says, and one pair alone is just as far
 pub record IsNear (from : Point) (w : Waiting) : Type 0 where
   pub least : All (λ p. w.distance ≤ box_dist2 from p.bounds) (met_pairs w.met)
-  pub exact : (p : Pair) → w.met ≡ One p → w.distance ≡ box_dist2 from p.bounds
+  pub exact : (e : Bor Pair) → w.met ≡ One e → w.distance ≡ box_dist2 from e.now.bounds
 
 -- what waits stands in a heap's order, each with its distance
 pub record IsQueue (from : Point) (ws : List Waiting) : Type 0 where

@@ -111,6 +111,7 @@ fn box_place(bounds: BBox) -> u64
 }
 
 // A quarter of a square, in the order of the curve, and a point in it, seen from where the curve comes in.
+#[derive(Clone, Copy)]
 struct Turned {
     quarter: u64,
     x: u32,
@@ -125,13 +126,16 @@ fn curve_place(levels: u32, x: u32, y: u32) -> u64
     ensures value { result ≡ place_on_curve levels x y }
     ensures below { result < 2 ^ levels * 2 ^ levels }
 {
-    if levels == 0 {
-        return 0;
+    let mut place = 0;
+    let mut left = levels;
+    let (mut x, mut y) = (x, y);
+    while left > 0 {
+        left -= 1;
+        let turned = turn(1 << left, x, y);
+        place = 4 * place + turned.quarter;
+        (x, y) = (turned.x, turned.y);
     }
-    let half = 2u32.pow(levels - 1);
-    let Turned { quarter, x, y } = turn(half, x, y);
-    let places = u64::from(half) * u64::from(half);
-    quarter * places + curve_place(levels - 1, x, y)
+    place
 }
 
 // The quarter in which a point of a square stands, and the point seen in it.

@@ -17,6 +17,9 @@ use planar_geom::{NoMemory, Pt, box_dist2};
 use std::collections::BinaryHeap;
 use std::marker::Model;
 
+/// How much a walk waits for before its list grows: what the ten nearest of a large tree want.
+const ROOM: usize = 128;
+
 /// A walk through the pairs of a tree by rising distance of their boxes from a point.
 pub struct NearWalk<'a> {
     waiting: BinaryHeap<Waiting<'a>>,
@@ -52,7 +55,7 @@ impl<'a> NearWalk<'a> {
         ensures from { IfOk result (λ w. w.from ≡ p) }
         ensures given_up { IfOk result (λ w. w.given_up ≡ false) }
     {
-        let mut waiting = BinaryHeap::new(tree.allocator());
+        let mut waiting = BinaryHeap::with_capacity(tree.allocator(), ROOM)?;
         if let Some(root) = tree.root() {
             let first = Waiting {
                 distance: 0,

@@ -83,10 +83,10 @@ impl Slot {
     }
 
     /// The first entry, or the one entry.
-    pub(crate) fn first(&self) -> Entry
-        ensures { result ≡ self.now.first }
+    pub(crate) fn first(&self) -> &Entry
+        ensures { result.now ≡ self.now.first }
     {
-        self.first
+        &self.first
     }
 
     /// The box round all entries.
@@ -174,6 +174,27 @@ impl Node {
             bounds = bounds.with_box(slot.bounds);
         }
         (first.first, bounds)
+    }
+
+    // The same after an entry was taken out, where `around` held the entries before: a box that touched
+    // no edge leaves the box round all as it was.
+    fn summary_without<L: Ledger>(
+        &self,
+        entry: &Entry,
+        around: BBox,
+        steps: &mut Steps<L>,
+    ) -> (Entry, BBox)
+        requires some { 1 ≤ self.now.width }
+        requires held { All (λ p. IsInside around p.bounds) self.now.entries }
+        ensures begins { self.now.entries ≡ result.0 ∷ drop 1 self.now.entries }
+        ensures covers { All (λ p. IsInside result.1 p.bounds) self.now.entries }
+        ensures full { 8 ≤ self.now.width → self.now.width ≤ 16 → IsFull self.now }
+        ensures cost { steps.new.count ≤ steps.old.count + 1 }
+    {
+        if touches_edge(around, entry.bounds()) {
+            return self.summary(steps);
+        }
+        (self.slots[0].first, around)
     }
 
     fn into_slot<L: Ledger>(self, steps: &mut Steps<L>) -> Slot
@@ -331,7 +352,7 @@ impl Node {
         if !child.remove(entry, pool, steps) {
             return false;
         }
-        let (first, bounds) = child.summary(steps);
+        let (first, bounds) = child.summary_without(entry, slot.bounds, steps);
         let width = child.width();
         slot.first = first;
         slot.bounds = bounds;
@@ -387,6 +408,14 @@ impl Node {
         }
         Ok(())
     }
+}
+
+// Whether a box that stands in another reaches one of its edges.
+fn touches_edge(outer: BBox, inner: BBox) -> bool {
+    inner.min().x() <= outer.min().x()
+        || inner.min().y() <= outer.min().y()
+        || outer.max().x() <= inner.max().x()
+        || outer.max().y() <= inner.max().y()
 }
 
 // The least that a root holds.

@@ -13,7 +13,7 @@ use std::cmp::Ordering;
 /// An entry, or a node with all below it.
 #[derive(Drop)]
 pub(crate) enum Met<'a> {
-    One(Entry),
+    One(&'a Entry),
     Below(&'a Node),
 }
 

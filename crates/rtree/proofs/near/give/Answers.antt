@@ -19,8 +19,8 @@ loop-nearest-smaller-in-One g c =
     let old = heap_items c.loop-nearest.waiting in
     let new = heap_items c.take_due.new.waiting in
     let top = c.in-Some.ensures in
-    let pairs : IsPermutation (pairs_of old) (c.in-One.entry ∷ pairs_of new) = pairs_popped w _ old new c.in-One.is top.taken in
-    omega (arith, length_permutation (pairs_of old) (c.in-One.entry ∷ pairs_of new) pairs, nodes_popped w old new top.taken)
+    let pairs : IsPermutation (pairs_of old) (c.in-One.entry.now ∷ pairs_of new) = pairs_popped w _ old new c.in-One.is top.taken in
+    omega (arith, length_permutation (pairs_of old) (c.in-One.entry.now ∷ pairs_of new) pairs, nodes_popped w old new top.taken)
 
 pub loop-nearest-preserved-in-One : goal.loop-nearest-preserved-in-One
 loop-nearest-preserved-in-One g c =
@@ -31,12 +31,12 @@ loop-nearest-preserved-in-One g c =
     let new = heap_items c.take_due.new.waiting in
     let top = c.in-Some.ensures in
     let q = queue_less found from w old new c.loop-nearest.invariant.queue top in
-    let pairs : IsPermutation (pairs_of old) (c.in-One.entry ∷ pairs_of new) = pairs_popped w _ old new c.in-One.is top.taken in
+    let pairs : IsPermutation (pairs_of old) (c.in-One.entry.now ∷ pairs_of new) = pairs_popped w _ old new c.in-One.is top.taken in
     let least = far (λ n. w.distance ≤ n) (λ m k l e. omega (arith, l, e)) from new top.nearest q.0.near in
-    let id = c.in-One.entry.id in
+    let id = c.in-One.entry.now.id in
     let put : c.push.new.self ≡ c.loop-nearest.into ++ id ∷ [] = subst (λ n. c.push.new.self ≡ c.loop-nearest.into ++ n ∷ []) c.id.ensures c.in_ok-push-in-One.ensures.ok in record {
       queue = q.0;
-      found = found_one found from (pairs_of (heap_items c.args.waiting.now)) (pairs_of old) (pairs_of new) c.in-One.entry w.distance c.args.into.now c.loop-nearest.into c.push.new.self c.loop-nearest.invariant.found pairs (q.1.exact c.in-One.entry c.in-One.is) top.due least put;
+      found = found_one found from (pairs_of (heap_items c.args.waiting.now)) (pairs_of old) (pairs_of new) c.in-One.entry.now w.distance c.args.into.now c.loop-nearest.into c.push.new.self c.loop-nearest.invariant.found pairs (q.1.exact c.in-One.entry c.in-One.is) top.due least put;
     }
 
 pub open-requires : goal.open-requires

@@ -11,8 +11,8 @@ use Rattle.rtree.proofs.near.NearWalk.of.Goals.{in-Some+else-is_err, in_default}
 pub invariant_of-result : goal.invariant_of-result
 invariant_of-result c =
     let p = c.args.p in
-    let none = heap_items c.new-waiting.result in
-    let q = queue_none p none c.new-waiting.ensures.heap_order c.new-waiting.ensures.items in
+    let none = heap_items c.in_ok-waiting.waiting in
+    let q = queue_none p none c.in_ok-waiting.ensures.heap_order c.in_ok-waiting.ensures.items in
     elim c.match-root.branch [
       | in-Some+else-is_err w ↦
           let first : Waiting = record { distance = 0; met = Below w.in-Some.root } in
@@ -26,13 +26,13 @@ invariant_of-result c =
 
 pub returns-clause-left : goal.returns-clause-left
 returns-clause-left c =
-    let none = heap_items c.new-waiting.result in
+    let none = heap_items c.in_ok-waiting.waiting in
     elim c.match-root.branch [
       | in-Some+else-is_err w ↦
           let first : Waiting = record { distance = 0; met = Below w.in-Some.root } in
           let new = heap_items w.push.new.self in
           let more = kept_promise w.push.result (IsPermutation (first ∷ none) new) w.if-is_err.ensures.negation w.push.ensures.permutation in
-          let one : new ≡ first ∷ [] = only_one first new (subst (λ ws. IsPermutation (first ∷ ws) new) c.new-waiting.ensures.items more) in
+          let one : new ≡ first ∷ [] = only_one first new (subst (λ ws. IsPermutation (first ∷ ws) new) c.in_ok-waiting.ensures.items more) in
           ap (λ h. pairs_of (heap_items h)) w.waiting-is ∙ (ap pairs_of one ∙ (append-nil w.in-Some.root.now.entries ∙ w.in-Some.ensures))
-      | in_default w ↦ ap (λ h. pairs_of (heap_items h)) w.waiting-is ∙ (ap pairs_of c.new-waiting.ensures.items ∙ sym w.in_default.ensures)
+      | in_default w ↦ ap (λ h. pairs_of (heap_items h)) w.waiting-is ∙ (ap pairs_of c.in_ok-waiting.ensures.items ∙ sym w.in_default.ensures)
     ]

@@ -1,13 +1,14 @@
-use Rattle.std.proofs.Common.{rules, ◌≡◌, ℕ, ◌+◌, ◌-◌, ◌≤◌, ◌<◌, ◌++◌, ◌∷◌, Option, Some, None, List, length, take, drop, get_or, slice_set, vec_capacity, refl, arith, ap, sym, ◌∙◌, subst}
+use Rattle.std.proofs.Common.{rules, ◌≡◌, ℕ, ◌+◌, ◌-◌, ◌≤◌, ◌<◌, ◌++◌, ◌∷◌, Option, Some, None, List, All, length, take, drop, get_or, slice_set, vec_capacity, refl, arith, ap, sym, ◌∙◌, subst}
 use Rattle.std.specs.List.{Contains, remove}
 use Rattle.std.proofs.lemmas.List.{set-get_or}
 use Rattle.std.proofs.lemmas.List.Elements.{All-get_or}
 use Rattle.rtree.specs.declared.nodes.Slot.{Slot}
-use Rattle.rtree.specs.Pairs.{IsWith, IsOrdered}
+use Rattle.rtree.specs.Pairs.{Pair, IsInside, IsWith, IsOrdered}
 use Rattle.rtree.specs.Subtrees.{Subtree, entries_at, nodes_of}
 use Rattle.rtree.specs.Slots.{slot_entries, all_entries, all_nodes, subtree, IsSlot, IsThin, IsPlaceFor}
 use Rattle.rtree.proofs.Slots.{height_low, nodes-append}
 use Rattle.rtree.proofs.Places.{leaf_slot, split_at}
+use Rattle.rtree.proofs.Lists.{all-without}
 use Rattle.rtree.proofs.Losses.{absent_before}
 use Rattle.rtree.proofs.Inserts.{made_slot}
 use Rattle.rtree.proofs.Children.{child_of, whole_nodes}
@@ -185,6 +186,26 @@ returns-then-not-remove-clause-removed g t0 c =
     let none = subst (λ es. Contains es e → ⊥) (sym there) gone.0 in
     (subst (λ (v : Subtree). Contains v.entries e → ⊥) c.self.view_is (absent h _ items e k at s c.self.invariant place next read none), ap (subtree h) (same_slots items at s n c.remove-2.new.self read below gone.1) ∙ c.self.view_is)
 
+pub summary_without-first-requires-clause-held : goal.summary_without-first-requires-clause-held
+summary_without-first-requires-clause-held g t0 c =
+    let h = c.self.inside.height in
+    let items = c.self.inside.slots.items in
+    let e = c.args.entry.now in
+    let k = c.place_for-place.result in
+    let place = subst (λ xs. IsPlaceFor xs e k) c.as_slice.ensures.value c.place_for-place.ensures in
+    let next : k ≡ c.place_for-place.result - 1 + 1 = omega (arith, c.if-place-eq0.false) in
+    let at = c.place_for-place.result - 1 in
+    let within : at < length items = omega (arith, place.within, next) in
+    let s = c.index_mut-slot.result.now in
+    let read = c.index_mut-slot.ensures.value in
+    let n = c.in-Some.child.now in
+    let below : s.below ≡ Some n = sym c.in-Some.ensures.value in
+    let slot = subst (IsSlot h) (sym read) (All-get_or (IsSlot h) items at s within c.self.invariant.each) in
+    let there : slot_entries s ≡ n.entries = ap (entries_at s.first) below in
+    let w : IsWith e c.remove-2.new.self.entries n.entries = c.if-not-remove.ensures.removed in
+    let P : Pair → Type 0 = λ p. IsInside s.bounds p.bounds in
+    all-without P e c.remove-2.new.self.entries n.entries w (subst (All P) there slot.summed.covers)
+
 pub invariant_of-self-then-width-ge-LEAST : goal.invariant_of-self-then-width-ge-LEAST
 invariant_of-self-then-width-ge-LEAST g t0 c =
     let h = c.self.inside.height in
@@ -206,12 +227,12 @@ invariant_of-self-then-width-ge-LEAST g t0 c =
     let own : nodes_of s.below ≡ n.nodes = ap nodes_of below in
     let some = nodes_within at items s within read in
     let m = c.remove-2.new.self in
-    let first = c.summary-first.result.0 in
-    let box = c.summary-first.result.1 in
+    let first = c.summary_without-first.result.0 in
+    let box = c.summary_without-first.result.1 in
     let t : Slot = record { first = first; bounds = box; below = Some m } in
     let level : m.height + 1 ≡ h = omega (arith, child.height, c.remove-2.ensures.height) in
     let w : IsWith e m.entries n.entries = c.if-not-remove.ensures.removed in
-    let slot = made_slot h m first box level c.summary-first.ensures.begins c.summary-first.ensures.covers (c.summary-first.ensures.full (omega (arith, c.width-width.ensures, c.if-width-ge-LEAST.true)) (omega (arith, c.remove-2.ensures.no_wider, child.full.most))) in
+    let slot = made_slot h m first box level c.summary_without-first.ensures.begins c.summary_without-first.ensures.covers (c.summary_without-first.ensures.full (omega (arith, c.width-width.ensures, c.if-width-ge-LEAST.true)) (omega (arith, c.remove-2.ensures.no_wider, child.full.most))) in
     (inner_shrinks h _ (vec_capacity c.self.inside.slots) items e at s t n c.self.invariant within read below w slot c.self.invariant.roomy).node
 
 pub returns-then-width-ge-LEAST-clause-removed : goal.returns-then-width-ge-LEAST-clause-removed
@@ -235,8 +256,8 @@ returns-then-width-ge-LEAST-clause-removed g t0 c =
     let own : nodes_of s.below ≡ n.nodes = ap nodes_of below in
     let some = nodes_within at items s within read in
     let m = c.remove-2.new.self in
-    let first = c.summary-first.result.0 in
-    let box = c.summary-first.result.1 in
+    let first = c.summary_without-first.result.0 in
+    let box = c.summary_without-first.result.1 in
     let t : Slot = record { first = first; bounds = box; below = Some m } in
     let level : m.height + 1 ≡ h = omega (arith, child.height, c.remove-2.ensures.height) in
     let w : IsWith e m.entries n.entries = c.if-not-remove.ensures.removed in
@@ -263,8 +284,8 @@ returns-then-width-ge-LEAST-clause-lists g t0 c =
     let own : nodes_of s.below ≡ n.nodes = ap nodes_of below in
     let some = nodes_within at items s within read in
     let m = c.remove-2.new.self in
-    let first = c.summary-first.result.0 in
-    let box = c.summary-first.result.1 in
+    let first = c.summary_without-first.result.0 in
+    let box = c.summary_without-first.result.1 in
     let t : Slot = record { first = first; bounds = box; below = Some m } in
     let level : m.height + 1 ≡ h = omega (arith, child.height, c.remove-2.ensures.height) in
     let w : IsWith e m.entries n.entries = c.if-not-remove.ensures.removed in
@@ -291,13 +312,13 @@ mend-requires-clause-thin g t0 c =
     let own : nodes_of s.below ≡ n.nodes = ap nodes_of below in
     let some = nodes_within at items s within read in
     let m = c.remove-2.new.self in
-    let first = c.summary-first.result.0 in
-    let box = c.summary-first.result.1 in
+    let first = c.summary_without-first.result.0 in
+    let box = c.summary_without-first.result.1 in
     let t : Slot = record { first = first; bounds = box; below = Some m } in
     let level : m.height + 1 ≡ h = omega (arith, child.height, c.remove-2.ensures.height) in
     let w : IsWith e m.entries n.entries = c.if-not-remove.ensures.removed in
     let slim : m.width ≡ 7 = omega (arith, c.width-width.ensures, c.if-width-ge-LEAST.false, c.remove-2.ensures.width, child.full.least) in
-    let slot : IsThin h t = record { summed = summed_slot h m first box level c.summary-first.ensures.begins c.summary-first.ensures.covers; thin = slim } in
+    let slot : IsThin h t = record { summed = summed_slot h m first box level c.summary_without-first.ensures.begins c.summary_without-first.ensures.covers; thin = slim } in
     let above : 2 ≤ h = omega (arith, child.height, child.full.high) in
     let two : 2 ≤ length items = omega (arith, wide, c.requires.two (omega (arith, tall, above))) in
     let sick = inner_thin h _ items e at s t n c.self.invariant within read below w slot above two in
@@ -346,13 +367,13 @@ invariant_of-self-2 g t0 c =
     let own : nodes_of s.below ≡ n.nodes = ap nodes_of below in
     let some = nodes_within at items s within read in
     let m = c.remove-2.new.self in
-    let first = c.summary-first.result.0 in
-    let box = c.summary-first.result.1 in
+    let first = c.summary_without-first.result.0 in
+    let box = c.summary_without-first.result.1 in
     let t : Slot = record { first = first; bounds = box; below = Some m } in
     let level : m.height + 1 ≡ h = omega (arith, child.height, c.remove-2.ensures.height) in
     let w : IsWith e m.entries n.entries = c.if-not-remove.ensures.removed in
     let slim : m.width ≡ 7 = omega (arith, c.width-width.ensures, c.if-width-ge-LEAST.false, c.remove-2.ensures.width, child.full.least) in
-    let slot : IsThin h t = record { summed = summed_slot h m first box level c.summary-first.ensures.begins c.summary-first.ensures.covers; thin = slim } in
+    let slot : IsThin h t = record { summed = summed_slot h m first box level c.summary_without-first.ensures.begins c.summary_without-first.ensures.covers; thin = slim } in
     let above : 2 ≤ h = omega (arith, child.height, child.full.high) in
     let two : 2 ≤ length items = omega (arith, wide, c.requires.two (omega (arith, tall, above))) in
     let sick = inner_thin h _ items e at s t n c.self.invariant within read below w slot above two in
@@ -383,8 +404,8 @@ returns-clause-removed g t0 c =
     let own : nodes_of s.below ≡ n.nodes = ap nodes_of below in
     let some = nodes_within at items s within read in
     let m = c.remove-2.new.self in
-    let first = c.summary-first.result.0 in
-    let box = c.summary-first.result.1 in
+    let first = c.summary_without-first.result.0 in
+    let box = c.summary_without-first.result.1 in
     let t : Slot = record { first = first; bounds = box; below = Some m } in
     let level : m.height + 1 ≡ h = omega (arith, child.height, c.remove-2.ensures.height) in
     let w : IsWith e m.entries n.entries = c.if-not-remove.ensures.removed in
@@ -412,8 +433,8 @@ returns-clause-lists g t0 c =
     let own : nodes_of s.below ≡ n.nodes = ap nodes_of below in
     let some = nodes_within at items s within read in
     let m = c.remove-2.new.self in
-    let first = c.summary-first.result.0 in
-    let box = c.summary-first.result.1 in
+    let first = c.summary_without-first.result.0 in
+    let box = c.summary_without-first.result.1 in
     let t : Slot = record { first = first; bounds = box; below = Some m } in
     let level : m.height + 1 ≡ h = omega (arith, child.height, c.remove-2.ensures.height) in
     let w : IsWith e m.entries n.entries = c.if-not-remove.ensures.removed in
