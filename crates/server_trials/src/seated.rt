@@ -55,6 +55,7 @@ impl<'a> Seated<'a> {
             limit: 1_000,
             idle: 0,
             shrink_at: 0,
+            followers: 0,
             until_end: false,
         };
         let clock = HandClock::at(7);
