@@ -238,7 +238,8 @@ pub mapped_some : {F : Type 0} (shows : F → Knows) (front : Option F) → is_s
 mapped_some shows None some = absurd (cc)
 mapped_some shows (Some x) some = refl
 
-pub fronts_of : (tell : Bool) (seen : Option Sides) (Back : Halt → Type 0) (told : Option ℕ) (s : Serve) (door door' : DoorState) (wait wait' : WaitState) (held held' : Option Bytes) (status : ℕ) (front : Option Knows) → is_some front ≡ true
-    → IfSome front (ServesFront tell seen told s door door' wait wait' held held' status) → Fronts tell seen Back told s door door' wait wait' held held' status front
-fronts_of tell seen Back told s door door' wait wait' held held' status None some v = absurd (cc)
-fronts_of tell seen Back told s door door' wait wait' held held' status (Some k) some v = v
+pub fronts_of : (was tell : Bool) (seen : Option Sides) (Back : Halt → Type 0) (told : Option ℕ) (s : Serve) (door door' : DoorState) (wait wait' : WaitState) (held held' : Option Bytes) (status : ℕ) (front : Option Knows) → was ≡ tell → is_some front ≡ true
+    → IfSome front (ServesFront was seen told s door door' wait wait' held held' status) → Fronts tell seen Back told s door door' wait wait' held held' status front
+fronts_of was tell seen Back told s door door' wait wait' held held' status None same some v = absurd (cc)
+fronts_of was tell seen Back told s door door' wait wait' held held' status (Some k) same some v =
+    subst (λ (b : Bool). ServesFront b seen told s door door' wait wait' held held' status k) same v

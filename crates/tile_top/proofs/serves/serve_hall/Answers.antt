@@ -1,17 +1,15 @@
-use Rattle.std.proofs.Common.{◌≡◌, true, refl, sym, subst}
-use Rattle.std.specs.Prelude.{IfSome, option_map}
+use Rattle.std.proofs.Common.{◌≡◌, true, refl, sym, ap, subst}
+use Rattle.std.specs.Prelude.{option_map}
 use Rattle.shared_hall.specs.Cores.{tells}
 use Rattle.shared_hall.specs.Seats.{first_writing, knows_of}
-use Rattle.tile_top.specs.Fronts.{ServesFront}
 use Rattle.tile_top.proofs.Fronting.{damaged_as, fronts_of, mapped_some, unspent_as, written_as}
 use Rattle.tile_top.proofs.serves.serve_hall.Goals as goal
 
 pub returns-in-Ok-clause-serves : goal.returns-in-Ok-clause-serves
 returns-in-Ok-clause-serves g c =
     let D = g.D.Disk in
-    fronts_of (tells D.crashes D.seen c.args.disk) _ _ _ _ _ _ _ _ _ _ _ (option_map knows_of c.serve_on.result.front) (mapped_some knows_of c.serve_on.result.front c.serve_on.ensures.some)
-    (subst (λ (d : g.row.D.Denot). IfSome (option_map knows_of c.serve_on.result.front) (ServesFront (tells D.crashes D.seen d) (D.seen c.args.disk) _ _ _ _ _ _ _ _ _)) c.in-Ok.ensures.handed
-    (c.serve_on.ensures.serves _ c.in-Ok.ensures.first c.in-Ok.ensures.writing))
+    fronts_of _ _ _ _ _ _ _ _ _ _ _ _ _ (option_map knows_of c.serve_on.result.front) (ap (λ (d : g.row.D.Denot). tells D.crashes D.seen d) c.in-Ok.ensures.handed)
+    (mapped_some knows_of c.serve_on.result.front c.serve_on.ensures.some) (c.serve_on.ensures.serves _ c.in-Ok.ensures.first c.in-Ok.ensures.writing)
 
 pub returns-in-Err-clause-serves : goal.returns-in-Err-clause-serves
 returns-in-Err-clause-serves g c = record {
