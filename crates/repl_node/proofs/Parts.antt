@@ -15,7 +15,7 @@ use Rattle.std.proofs.lemmas.List.{drop_all}
 use Rattle.resp_frames.specs.RequestReader.{Held, IsFed, IsNotFed, IsTaken, ReadTexts}
 use Rattle.resp_frames.specs.declared.faults.FeedFault.{FeedFault}
 use Rattle.resp_frames.specs.declared.faults.FeedFault.TheVariants.{Broken}
-use Rattle.repl_node.specs.Followers.{Asks, Comes, IsAnswer, IsBad, IsNotTaken, IsReading, TakesLast, bytes_held}
+use Rattle.repl_node.specs.Followers.{Asks, Comes, IsAnswer, IsBad, IsNotTaken, IsReading, TakesLast, TakesMore, bytes_held}
 use Rattle.repl_node.specs.Following.{Followed, IsHeard}
 use Rattle.repl_node.specs.declared.nodes.Heard.{Heard}
 use Rattle.repl_node.specs.declared.nodes.Heard.TheVariants.{More, Published}
@@ -79,13 +79,20 @@ module _ (old new : Followed) (part : Part) (bytes : Bytes) (words : List Bytes)
   answer : IsAnswer (request_text words) (delivered part bytes)
   answer = record { part = is.0; text_is = ap request_text is.1 }
 
+  takes_more : (h : Heard) → h ≡ More → IsHeard old part bytes new h → TakesMore old (request_text words) new
+  takes_more h e heard = record {
+    answer = delivered part bytes;
+    is_answer = answer;
+    goes_on = subst (λ (x : Heard). IsHeard old part bytes new x) e heard;
+  }
+
   -- the log goes on behind it
   pub comes_more : (h : Heard) (out : Bytes) (phase : Phase) → h ≡ More → IsHeard old part bytes new h → Asks new out phase
       → Comes (request_text words) old new [] out phase
   comes_more h out phase e heard (inl (o, p)) = subst (λ (x : Phase). Comes (request_text words) old new [] out x) (sym p)
-      (inr (record { answer = delivered part bytes; is_answer = answer; goes_on = subst (λ (x : Heard). IsHeard old part bytes new x) e heard }, refl, o))
+      (inr (takes_more h e heard, refl, o))
   comes_more h out phase e heard (inr (o, p)) = subst (λ (x : Phase). Comes (request_text words) old new [] out x) (sym p)
-      (inr (record { answer = delivered part bytes; is_answer = answer; goes_on = subst (λ (x : Heard). IsHeard old part bytes new x) e heard }))
+      (inr (takes_more h e heard))
 
   -- it reaches the end of the log
   pub takes_last : (h : Heard) → h ≡ Published → IsHeard old part bytes new h → TakesLast old (request_text words) new
@@ -103,7 +110,8 @@ module _ (old new : Followed) (part : Part) (bytes : Bytes) (words : List Bytes)
 
 -- a request came: the bytes are read as it and what stands behind it, and none is held
 fed_request : (held new : Held) (piece : Bytes) (taken : ℕ) (read : Option (List Bytes)) (words : List Bytes) → read ≡ Some words
-    → IsFed held new piece taken read → (request (bytes_held held ++ piece) ≡ found words (drop taken piece)) × (taken ≤ length piece) × (new ≡ Some [])
+    → IsFed held new piece taken read
+    → (request (bytes_held held ++ piece) ≡ found words (drop taken piece)) × (taken ≤ length piece) × (new ≡ Some [])
 fed_request None new piece taken read words is f = absurd f
 fed_request (Some held) new piece taken read words is f =
     let t = subst (λ (r : Option (List Bytes)). IsTaken held new piece taken r) is f in (t.0, t.1, t.2)

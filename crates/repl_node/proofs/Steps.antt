@@ -18,7 +18,7 @@ use Rattle.byte_text.specs.Streams.{begun, request}
 use Rattle.repl_stream.specs.Texts.{ask_text, part_text}
 use Rattle.repl_node.specs.Deliveries.{Delivery, Hears, HearsAll}
 use Rattle.repl_node.specs.FollowedSoFar.{Adopts, FollowedSoFar, Stands, TakesTurns, Turn, all_asks_text, asks_text, parts_text}
-use Rattle.repl_node.specs.Followers.{Asks, AsksAgain, Comes, FollowerState, Hearkens, IsAnswer, IsBad, Opens, WantsToRead, WantsToWrite}
+use Rattle.repl_node.specs.Followers.{Asks, AsksAgain, Comes, FollowerState, Receives, IsAnswer, IsBad, Opens, WantsToRead, WantsToWrite}
 use Rattle.repl_node.specs.Followers.{WritesOut}
 use Rattle.repl_node.specs.Following.{Followed, next_ask}
 use Rattle.repl_node.specs.declared.nodes.Heard.TheVariants as heard
@@ -40,7 +40,8 @@ hears_all old (t ∷ turns) new (asks, next, adopts, later) = (next, adopted old
 turns_more : (old : Followed) (turns : List Turn) (mid new : Followed) (t : Turn) → TakesTurns old turns mid → t.ask ≡ next_ask mid
     → Adopts mid t.answer new → TakesTurns old (turns ++ t ∷ []) new
 turns_more old [] mid new t e asks adopts = subst (λ (n : Followed). TakesTurns n (t ∷ []) new) e (asks, new, adopts, refl)
-turns_more old (u ∷ turns) mid new t (first, next, others, later) asks adopts = (first, next, others, turns_more next turns mid new t later asks adopts)
+turns_more old (u ∷ turns) mid new t (first, next, others, later) asks adopts =
+    (first, next, others, turns_more next turns mid new t later asks adopts)
 
 asks_more : (turns : List Turn) (t : Turn) → asks_text (turns ++ t ∷ []) ≡ asks_text turns ++ ask_text t.ask
 asks_more turns t = flat_map-append (λ (u : Turn). ask_text u.ask) turns (t ∷ [])
@@ -151,7 +152,8 @@ module _ (first : Followed) (came : LinkState) (old : FollowerState) (s : Follow
 
     -- no part was taken
     same : (node : Followed) (held out : Bytes) (phase : Phase) → node ≡ old.node
-        → Stands s.turns came (state line node held out phase) s.sent (old.held ++ bytes) phase → FollowedSoFar first came (state line node held out phase)
+        → Stands s.turns came (state line node held out phase) s.sent (old.held ++ bytes) phase
+        → FollowedSoFar first came (state line node held out phase)
     same node held out phase is stands = record {
       turns = s.turns;
       takes = takes;
@@ -234,7 +236,7 @@ module _ (first : Followed) (came : LinkState) (old : FollowerState) (s : Follow
     came_in node held out (Ended WriteFault) c = absurd c
 
   pub kept_read : {E : Type 0} → (new : FollowerState) (r : Result Got E) (into : Bytes) → WantsToRead old → Reads old.line new.line r into
-      → Hearkens old new r into → FollowedSoFar first came new
+      → Receives old new r into → FollowedSoFar first came new
   kept_read new (Ok (got.Bytes n)) into wants (consumed, is) comes =
       came_in wants new.line (take n into) consumed (held_of is) (no_less is) new.node new.held new.out new.phase comes
   kept_read new (Ok got.End) into wants (at_end, is) e = so_far_at e
@@ -258,11 +260,12 @@ module _ (first : Followed) (came : LinkState) (old : FollowerState) (s : Follow
     read_is = s.read_is;
     sent = s.sent ++ take n old.out;
     appended = appends_more came.held old.line.held line.held s.sent (take n old.out) s.appended appends;
-    stands = subst (λ (p : Phase). Stands s.turns came (state line old.node old.held (drop n old.out) old.phase) (s.sent ++ take n old.out) s.rest p) (sym e) (
-      (asks_on e).0,
-      (asks_on e).1,
-      append_assoc s.sent (take n old.out) (drop n old.out) ∙ ap (λ (l : Bytes). s.sent ++ l) (take-append-drop n old.out) ∙ (asks_on e).2,
-    );
+    stands = subst (λ (p : Phase). Stands s.turns came (state line old.node old.held (drop n old.out) old.phase) (s.sent ++ take n old.out) s.rest p)
+        (sym e) (
+          (asks_on e).0,
+          (asks_on e).1,
+          append_assoc s.sent (take n old.out) (drop n old.out) ∙ ap (λ (l : Bytes). s.sent ++ l) (take-append-drop n old.out) ∙ (asks_on e).2,
+        );
     later = omega (arith, s.later, faults);
   }
 

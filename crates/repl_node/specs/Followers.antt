@@ -99,11 +99,11 @@ abbrev pub AsksAgain : FollowerState → FollowerState → Type 0
 AsksAgain old new = (new ≡ record old { out = new.out; phase = new.phase }) × Asks old.node new.out new.phase
 
 -- what a read brought goes on with the answer; the end of the link and its failure are ends
-abbrev pub Hearkens : {E : Type 0} → FollowerState → FollowerState → Result Got E → Bytes → Type 0
-Hearkens old new (Ok (got.Bytes n)) into = Comes (old.held ++ take n into) old.node new.node new.held new.out new.phase
-Hearkens old new (Ok got.End) into = new ≡ record old { phase = Ended Over }
-Hearkens old new (Ok got.Later) into = new ≡ old
-Hearkens old new (Err e) into = new ≡ record old { line = new.line; phase = Ended ReadFault }
+abbrev pub Receives : {E : Type 0} → FollowerState → FollowerState → Result Got E → Bytes → Type 0
+Receives old new (Ok (got.Bytes n)) into = Comes (old.held ++ take n into) old.node new.node new.held new.out new.phase
+Receives old new (Ok got.End) into = new ≡ record old { phase = Ended Over }
+Receives old new (Ok got.Later) into = new ≡ old
+Receives old new (Err e) into = new ≡ record old { line = new.line; phase = Ended ReadFault }
 
 -- what was written is to be written no more
 abbrev pub WritesOut : {E : Type 0} → FollowerState → FollowerState → Result Sent E → Type 0

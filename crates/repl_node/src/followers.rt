@@ -3,7 +3,7 @@
 ghost use Rattle.std.specs.Prelude.{◌≡◌, ◌<◌, [], length, Decides};
 ghost use Rattle.outside.specs.Links.{GotWithin, LinkState, SentWithin, Reads, Writes};
 ghost use Rattle.repl_node.specs.FollowedSoFar.{FollowedSoFar};
-ghost use Rattle.repl_node.specs.Followers.{AsksAgain, Hearkens, IsFit, Opens, WantsToRead, WantsToWrite, WritesOut};
+ghost use Rattle.repl_node.specs.Followers.{AsksAgain, Receives, IsFit, Opens, WantsToRead, WantsToWrite, WritesOut};
 ghost use Rattle.repl_node.specs.Following.{Followed};
 
 use crate::nodes::Node;
@@ -105,7 +105,7 @@ impl<K: ReadyLink> Follower<K> {
         requires ready { WantsToRead self.old }
         ensures within { GotWithin result (length block.new) }
         ensures read { Reads self.old.line self.new.line result block.new }
-        ensures hearkens { Hearkens self.old self.new result block.new }
+        ensures receives { Receives self.old self.new result block.new }
         ensures kept { (first : Followed) (came : LinkState) → FollowedSoFar first came self.old
             → FollowedSoFar first came self.new }
     {

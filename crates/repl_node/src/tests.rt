@@ -316,7 +316,7 @@ fn followers_end_as_their_links_do(rt: HostRuntime) -> Result<(), Fail> {
         (part, &later, &later, (Phase::Published, 1, FIRST_ASK)),
         // The link ends before a part, and in the middle of one.
         (b"", all, all, (over, 0, FIRST_ASK)),
-        (&part[..100], all, all, (over, 0, FIRST_ASK)),
+        (&part[..part.len().min(100)], all, all, (over, 0, FIRST_ASK)),
         // It fails.
         (part, &fails, all, (read_fault, 0, FIRST_ASK)),
         (part, all, &fails, (write_fault, 0, &FIRST_ASK[..5])),
@@ -338,10 +338,8 @@ fn one_part_answers_an_ask(rt: HostRuntime) -> Result<(), Fail> {
     push_piece(&mut parts, &log, 16, 107, 91)?;
     let first = parts.len();
     push_piece(&mut parts, &log, 107, 143, 36)?;
-    let second = parts.len();
-    push_piece(&mut parts, &log, 107, 143, 36)?;
     let sends = parts.bytes();
-    let apart = [Move::Most(first), Move::Most(second.saturating_sub(first))];
+    let apart = [Move::Most(first)];
     let bad = Phase::Ended(FollowEnd::BadPart);
     // Each answers its ask.
     let wanted = (Phase::Published, 0, ASKS_TO_107);
@@ -353,7 +351,7 @@ fn one_part_answers_an_ask(rt: HostRuntime) -> Result<(), Fail> {
     push_piece(&mut twice, &log, 16, 107, 91)?;
     push_piece(&mut twice, &log, 16, 107, 91)?;
     let wanted = (bad, 1, ASKS_TO_107);
-    follow(&rt, alloc, twice.bytes(), (&apart[..1], &[]), 2, wanted)
+    follow(&rt, alloc, twice.bytes(), (&apart, &[]), 2, wanted)
 }
 
 #[test]

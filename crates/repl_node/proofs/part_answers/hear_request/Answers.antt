@@ -16,15 +16,15 @@ returns-in_default c =
 pub returns-in-Ok-More : goal.returns-in-Ok-More
 returns-in-Ok-More c =
     let words = c.args.request.now in
-    comes_more c.args.node.now c.hear.new.self c.in-Some.part c.word.result.now words
-    (part_words_are c.in-Some.part words c.word.result.now c.in-Some.ensures.made c.word.ensures) c.in-Ok-More.field-0 c.ask.new.out c.ask.result
+    let is = part_words_are c.in-Some.part words c.word.result.now c.in-Some.ensures.made c.word.ensures in
+    comes_more c.args.node.now c.hear.new.self c.in-Some.part c.word.result.now words is c.in-Ok-More.field-0 c.ask.new.out c.ask.result
     c.in-Ok-More.field-0-is c.in-Ok-More.ensures.heard c.ask.ensures
 
 pub returns-in-Ok-Published : goal.returns-in-Ok-Published
 returns-in-Ok-Published c =
-    let words = c.args.request.now in (
-      takes_last c.args.node.now c.hear.new.self c.in-Some.part c.word.result.now words
-          (part_words_are c.in-Some.part words c.word.result.now c.in-Some.ensures.made c.word.ensures) c.in-Ok-Published.field-0
+    let words = c.args.request.now in
+    let is = part_words_are c.in-Some.part words c.word.result.now c.in-Some.ensures.made c.word.ensures in (
+      takes_last c.args.node.now c.hear.new.self c.in-Some.part c.word.result.now words is c.in-Ok-Published.field-0
           c.in-Ok-Published.field-0-is c.in-Ok-Published.ensures.heard,
       refl,
       c.requires.written,
@@ -33,10 +33,10 @@ returns-in-Ok-Published c =
 pub returns-in-Ok-Old : goal.returns-in-Ok-Old
 returns-in-Ok-Old c =
     let words = c.args.request.now in
+    let is = part_words_are c.in-Some.part words c.word.result.now c.in-Some.ensures.made c.word.ensures in
     let e = subst (λ (h : Heard). IsHeard c.args.node.now c.in-Some.part c.word.result.now c.hear.new.self h) c.in-Ok-Old.field-0-is
     c.in-Ok-Old.ensures.heard in (
-      bad_answer c.args.node.now c.hear.new.self c.in-Some.part c.word.result.now words
-          (part_words_are c.in-Some.part words c.word.result.now c.in-Some.ensures.made c.word.ensures) c.stream_laws.ensures.parts c.stream_laws.ensures.part
+      bad_answer c.args.node.now c.hear.new.self c.in-Some.part c.word.result.now words is c.stream_laws.ensures.parts c.stream_laws.ensures.part
           (inl e.0),
       e.1,
     )
@@ -44,10 +44,10 @@ returns-in-Ok-Old c =
 pub returns-in-Err-NotRecords : goal.returns-in-Err-NotRecords
 returns-in-Err-NotRecords c =
     let words = c.args.request.now in
+    let is = part_words_are c.in-Some.part words c.word.result.now c.in-Some.ensures.made c.word.ensures in
     let e = c.in-Err-NotRecords.ensures in
     let f = c.in-Err-NotRecords.field-0-is in (
-      bad_answer c.args.node.now c.hear.new.self c.in-Some.part c.word.result.now words
-          (part_words_are c.in-Some.part words c.word.result.now c.in-Some.ensures.made c.word.ensures) c.stream_laws.ensures.parts c.stream_laws.ensures.part
+      bad_answer c.args.node.now c.hear.new.self c.in-Some.part c.word.result.now words is c.stream_laws.ensures.parts c.stream_laws.ensures.part
           (inr (e.refused (cc))),
       e.fault,
     )
