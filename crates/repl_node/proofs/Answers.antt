@@ -1,14 +1,13 @@
 -- The parts that a leader answers, for a node that has the bytes in front of them.
-use Rattle.std.specs.Prelude.{if◌then◌else◌, nat_lt, min}
-use Rattle.std.proofs.Common.{◌≡◌, ◌⊎◌, ◌≤◌, ◌<◌, ◌^◌, ◌∙◌, ◌+◌, ◌==◌, ◌&&◌, ℕ, Bool, true, false, List, [], ◌∷◌, ◌++◌, length, take, drop, refl, sym, ap, subst, arith, inl, inr}
+use Rattle.std.specs.Prelude.{if◌then◌else◌, nat_lt}
+use Rattle.std.proofs.Common.{◌≡◌, ◌⊎◌, ◌≤◌, ◌<◌, ◌∙◌, ◌+◌, ◌==◌, ◌&&◌, ℕ, Bool, true, false, List, [], ◌++◌, length, take, drop, refl, sym, ap, subst, arith, inl, inr}
 use Rattle.std.proofs.Common.{length-append, append_assoc}
-use Rattle.std.proofs.lemmas.Bool.{and_parts, eqb-true, ltb-true}
+use Rattle.std.proofs.lemmas.Bool.{and_parts, eqb-true}
 use Rattle.std.proofs.lemmas.Bool.Decides.{nat_tests}
 use Rattle.std.proofs.lemmas.List.{take_at, take-append-le, take-append-drop, length-take, nil_from_length, append-nil}
 use Rattle.byte_text.specs.Names.{Bytes}
-use Rattle.log_sides.specs.Texts.{batches_text, front_text, gate_place, newest}
+use Rattle.log_sides.specs.Texts.{batches_text, front_text, newest}
 use Rattle.repl_stream.specs.Texts.{max_part}
-use Rattle.repl_stream.specs.declared.parts.Part.{Part}
 use Rattle.repl_node.specs.Following.{Followed, first_place, had, is_next, place}
 use Rattle.repl_node.specs.Deliveries.{Delivery, IsAnswered}
 use Rattle.repl_node.proofs.Texts.{batches_joined, gate_is, behind_header}

@@ -1,18 +1,17 @@
 -- A node that hears parts of a leader's logs.
 use Rattle.std.specs.Prelude.{if◌then◌else◌, nat_lt}
 use Rattle.std.specs.List.{AllByRecursion, Contains}
-use Rattle.std.proofs.Common.{◌≡◌, ◌⊎◌, ◌≤◌, ◌<◌, ◌^◌, ◌∙◌, ◌+◌, ◌==◌, ◌&&◌, ℕ, Bool, true, false, List, [], ◌∷◌, ◌++◌, length, refl, sym, ap, subst, arith, inl, inr, length-append}
+use Rattle.std.proofs.Common.{◌≡◌, ◌⊎◌, ◌<◌, ◌∙◌, ◌+◌, ◌==◌, ◌&&◌, ℕ, Bool, true, false, List, [], ◌∷◌, ◌++◌, length, refl, sym, ap, subst, arith, inl, inr, length-append}
 use Rattle.std.proofs.lemmas.Bool.{and_parts, eqb-true, ltb-true}
-use Rattle.std.proofs.lemmas.Bool.Decides.{nat_tests}
 use Rattle.std.proofs.lemmas.List.Elements.{All-contains_itself, recursion_from_All}
 use Rattle.byte_text.specs.Names.{Bytes}
 use Rattle.world_data.specs.declared.worlds.World.{World}
-use Rattle.log_sides.specs.Texts.{batches_text, gate_place, newest}
+use Rattle.log_sides.specs.Texts.{newest}
 use Rattle.journal.specs.Openings.{AreWhole}
 use Rattle.repl_stream.specs.declared.parts.Part.{Part}
 use Rattle.world_recovery.specs.Recorded.{record_fault, world_in}
 use Rattle.repl_node.specs.LogTexts.{AreLog, IsWorldOf}
-use Rattle.repl_node.specs.Following.{Followed, IsHeard, IsRefused, GoesOn, Publishes, first_node, first_place, had, is_next, place, with_part, with_world}
+use Rattle.repl_node.specs.Following.{Followed, IsHeard, IsRefused, first_node, first_place, had, is_next, place, with_part, with_world}
 use Rattle.repl_node.specs.Deliveries.{Delivery, IsAnswered, AreAnswered, Hears, HearsAll, ShowsNothing, Shows, IsBehind}
 use Rattle.repl_node.specs.declared.nodes.Heard.{Heard}
 use Rattle.repl_node.specs.declared.nodes.Heard.TheVariants.{Old, More, Published}

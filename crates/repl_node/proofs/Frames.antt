@@ -1,6 +1,6 @@
 -- The batch at the front of bytes.
 use Rattle.std.specs.Int.{w64, from_be_bytes}
-use Rattle.std.proofs.Common.{◌≡◌, ◌≢◌, ◌≤◌, ◌<◌, ◌^◌, ◌∙◌, ◌+◌, ◌-◌, ℕ, zero, suc, List, [], ◌∷◌, ◌++◌, length, take, drop, get_or, Some, None, refl, sym, ap, subst, arith, length-append, append_assoc}
+use Rattle.std.proofs.Common.{◌≡◌, ◌≤◌, ◌<◌, ◌^◌, ◌∙◌, ◌+◌, ◌-◌, ℕ, zero, suc, List, [], ◌∷◌, ◌++◌, length, take, drop, get_or, Some, None, refl, sym, ap, subst, arith, length-append, append_assoc}
 use Rattle.std.proofs.lemmas.List.{take-append-drop, drop-drop, take_all, length-drop, length-take-le}
 use Rattle.std.proofs.lemmas.Nat.{be_bytes_8}
 use Rattle.byte_text.specs.Names.{Bytes}
@@ -9,7 +9,7 @@ use Rattle.log_sides.specs.Torn.{length-framed, batches_text-append}
 use Rattle.journal.specs.Openings.{AreWhole}
 use Rattle.world_recovery.specs.Recorded.{record_fault}
 use Rattle.repl_node.specs.LogTexts.{AreLog, BeginsWith, IsFirstLen}
-use Rattle.repl_node.proofs.Texts.{Left, left_of, length_read, same_batch}
+use Rattle.repl_node.proofs.Texts.{left_of, length_read, same_batch}
 
 -- there are too few bytes for a length, or the gate is closed
 

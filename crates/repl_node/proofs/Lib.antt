@@ -4,3 +4,5 @@ mod Answers
 mod Following
 mod Hearing
 mod Worlds
+mod Parts
+mod Steps

@@ -1,10 +1,10 @@
 -- The text of batches is the text of these batches alone.
 use Rattle.std.specs.Int.{w64, from_be_bytes}
-use Rattle.std.proofs.Common.{◌≡◌, ◌≤◌, ◌<◌, ◌^◌, ◌∙◌, ◌+◌, ℕ, List, [], ◌∷◌, ◌++◌, length, take, drop, refl, sym, ap, subst, arith, length-append, append_assoc}
+use Rattle.std.proofs.Common.{◌≡◌, ◌≤◌, ◌<◌, ◌^◌, ◌∙◌, ◌+◌, ℕ, List, [], ◌∷◌, ◌++◌, length, take, drop, refl, sym, ap, arith, length-append, append_assoc}
 use Rattle.std.proofs.lemmas.List.{take_at, drop_at, drop-drop, append-nil}
 use Rattle.std.proofs.lemmas.Nat.{from_be_bytes-to_be_bytes_8}
 use Rattle.byte_text.specs.Names.{Bytes}
-use Rattle.log_sides.specs.Texts.{batches_text, framed, front_text, gate_place, header, number_bytes, open_gate, with_batch}
+use Rattle.log_sides.specs.Texts.{batches_text, framed, front_text, gate_place, header, number_bytes, open_gate}
 use Rattle.log_sides.specs.Torn.{length-number_bytes, length-framed}
 
 -- joined batches

@@ -1,4 +1,5 @@
-//! What is published of a leader's logs, whatever parts of them come. It is the contract of a function that does nothing.
+//! What is published of a leader's logs, whatever parts of them come. It is the contract of a function that does
+//! nothing.
 
 ghost use Rattle.repl_node.specs.Deliveries.{NeverGoesBack, NeverShortens, PublishesBeginnings, TakesRecords};
 

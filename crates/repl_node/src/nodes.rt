@@ -127,8 +127,8 @@ impl Node {
         self.world.objects.get(key, id)
     }
 
-    /// Takes a part with its bytes, if it goes on with what the node has or begins a later log. Where it reaches the end
-    /// of the log, the world of the log is published. After a fault the node is as before.
+    /// Takes a part with its bytes, if it goes on with what the node has or begins a later log. Where it reaches the
+    /// end of the log, the world of the log is published. After a fault the node is as before.
     pub fn hear(&mut self, part: &Part, bytes: &[u8]) -> Result<Heard, HearFault>
         ensures heard { IfOk result (IsHeard self.old part.now bytes.now self.new) }
         ensures fault { OnErr result (self.new ≡ self.old) }

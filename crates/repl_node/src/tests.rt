@@ -1,8 +1,9 @@
-//! Nodes that hear parts of logs in memory.
+//! Nodes that hear parts of logs in memory, and followers of leaders over links in memory.
 
-use crate::{HearFault, Heard, Node};
+use crate::{FollowEnd, Follower, HearFault, Heard, Node, Phase};
 use byte_text::{Name, NoMemory, Text, push_array_head, push_bulk};
-use repl_stream::{Ask, Part};
+use outside::{CallerScript, Move, ScriptedLink};
+use repl_stream::{Ask, MAX_PART, Part, push_part};
 use std::alloc::Global;
 use std::process::Abort;
 use std::test::Fail;
@@ -196,4 +197,170 @@ fn a_log_is_cut_anywhere(rt: HostRuntime) -> Result<(), Fail> {
         );
     }
     Ok(())
+}
+
+// The asks of a node that has heard nothing, and behind these places of the first log.
+const FIRST_ASK: &[u8] = b"*3\r\n$4\r\nFEED\r\n$1\r\n0\r\n$1\r\n0\r\n";
+
+const ASKS_TO_116: &[u8] =
+    b"*3\r\n$4\r\nFEED\r\n$1\r\n0\r\n$1\r\n0\r\n*3\r\n$4\r\nFEED\r\n$1\r\n1\r\n$3\r\n116\r\n";
+
+const ASKS_TO_107: &[u8] =
+    b"*3\r\n$4\r\nFEED\r\n$1\r\n0\r\n$1\r\n0\r\n*3\r\n$4\r\nFEED\r\n$1\r\n1\r\n$3\r\n107\r\n";
+
+// What comes of a follower: how far it is, the objects of its world, and what it wrote.
+type Outcome<'a> = (Phase, u64, &'a [u8]);
+
+// Appends the text of a part of the first log with so many bytes, which stand from a place on up to an end.
+fn push_piece(into: &mut Text, log: &Text, from: u64, end: u64, count: usize) -> Result<(), Fail> {
+    let part = Part {
+        generation: 1,
+        from,
+        end,
+    };
+    let bytes = piece(log, from, count);
+    if bytes.len() <= MAX_PART {
+        push_part(into, &part, bytes)?;
+    }
+    Ok(())
+}
+
+// Steps a follower to its end, or until it has published so often.
+fn step_on(follower: &mut Follower<ScriptedLink>, times: usize) {
+    let mut block = [0; 4096];
+    let mut left = times;
+    for _ in 0..10_000u32 {
+        if follower.wants_to_write() {
+            let _ = follower.on_writable();
+        }
+        if follower.wants_to_read() {
+            let _ = follower.on_readable(&mut block);
+        }
+        if follower.is_published() {
+            left = left.saturating_sub(1);
+            if left == 0 {
+                return;
+            }
+            follower.ask_again();
+        }
+        if matches!(follower.phase(), Phase::Ended(_)) {
+            return;
+        }
+    }
+}
+
+// Whether this comes of a follower over a link on which this is sent and whose calls move so.
+fn follow(
+    rt: &impl Abort,
+    alloc: Global,
+    sends: &[u8],
+    moves: (&[Move], &[Move]),
+    times: usize,
+    wanted: Outcome,
+) -> Result<(), Fail> {
+    let script = CallerScript {
+        sends: sends.to_vec(alloc)?,
+        stays: false,
+        reads: moves.0.to_vec(alloc)?,
+        writes: moves.1.to_vec(alloc)?,
+    };
+    let link = ScriptedLink::new(alloc, 0, script);
+    let mut follower = Follower::new(alloc, link, Node::new(alloc));
+    step_on(&mut follower, times);
+    let (phase, objects, written) = wanted;
+    assert_eq!(rt; follower.phase(), phase);
+    assert_eq!(rt; follower.node().objects(), objects);
+    let (link, node) = follower.into_parts();
+    assert_eq!(rt; node.objects(), objects);
+    assert_eq!(rt; link.written(), written);
+    Ok(())
+}
+
+#[test]
+fn answers_are_cut_anywhere(rt: HostRuntime) -> Result<(), Fail> {
+    let alloc = rt.alloc();
+    let log = log_of(alloc, MORE_POINTS)?;
+    let mut sends = Text::new(alloc);
+    push_piece(&mut sends, &log, 16, 392, 100)?;
+    let first = sends.len();
+    push_piece(&mut sends, &log, 116, 392, 276)?;
+    let wanted = (Phase::Published, 2, ASKS_TO_116);
+    for cut in 1..sends.len() {
+        let reads = [Move::Most(cut.min(first)), Move::Most(cut.abs_diff(first))];
+        follow(&rt, alloc, sends.bytes(), (&reads, &[]), 1, wanted)?;
+    }
+    let mut bytes = Vec::new(alloc);
+    for _ in 0..sends.len() {
+        bytes.push(Move::Most(1))?;
+    }
+    follow(&rt, alloc, sends.bytes(), (&bytes, &bytes), 1, wanted)
+}
+
+#[test]
+fn followers_end_as_their_links_do(rt: HostRuntime) -> Result<(), Fail> {
+    let alloc = rt.alloc();
+    let log = log_of(alloc, POINTS)?;
+    let mut part = Text::new(alloc);
+    push_piece(&mut part, &log, 16, 107, 91)?;
+    let part = part.bytes();
+    let all = [].as_slice();
+    let later = [Move::Later, Move::Most(3), Move::Later, Move::Most(40)];
+    let fails = [Move::Most(5), Move::Fails];
+    let bad = Phase::Ended(FollowEnd::BadPart);
+    let over = Phase::Ended(FollowEnd::Over);
+    let read_fault = Phase::Ended(FollowEnd::ReadFault);
+    let write_fault = Phase::Ended(FollowEnd::WriteFault);
+    for (sends, reads, writes, wanted) in [
+        // All is well.
+        (part, all, all, (Phase::Published, 1, FIRST_ASK)),
+        (part, &later, &later, (Phase::Published, 1, FIRST_ASK)),
+        // The link ends before a part, and in the middle of one.
+        (b"", all, all, (over, 0, FIRST_ASK)),
+        (&part[..part.len().min(100)], all, all, (over, 0, FIRST_ASK)),
+        // It fails.
+        (part, &fails, all, (read_fault, 0, FIRST_ASK)),
+        (part, all, &fails, (write_fault, 0, &FIRST_ASK[..5])),
+        // No part, and no request.
+        (b"*1\r\n$4\r\nPING\r\n", all, all, (bad, 0, FIRST_ASK)),
+        (b"PART", all, all, (bad, 0, FIRST_ASK)),
+        (FIRST_ASK, all, all, (bad, 0, FIRST_ASK)),
+    ] {
+        follow(&rt, alloc, sends, (reads, writes), 1, wanted)?;
+    }
+    Ok(())
+}
+
+#[test]
+fn one_part_answers_an_ask(rt: HostRuntime) -> Result<(), Fail> {
+    let alloc = rt.alloc();
+    let log = log_of(alloc, POINTS)?;
+    let mut parts = Text::new(alloc);
+    push_piece(&mut parts, &log, 16, 107, 91)?;
+    let first = parts.len();
+    push_piece(&mut parts, &log, 107, 143, 36)?;
+    let sends = parts.bytes();
+    let apart = [Move::Most(first)];
+    let bad = Phase::Ended(FollowEnd::BadPart);
+    // Each answers its ask.
+    let wanted = (Phase::Published, 0, ASKS_TO_107);
+    follow(&rt, alloc, sends, (&apart, &[]), 2, wanted)?;
+    // Both come at once.
+    follow(&rt, alloc, sends, (&[], &[]), 2, (bad, 0, FIRST_ASK))?;
+    // The first one comes twice.
+    let mut twice = Text::new(alloc);
+    push_piece(&mut twice, &log, 16, 107, 91)?;
+    push_piece(&mut twice, &log, 16, 107, 91)?;
+    let wanted = (bad, 1, ASKS_TO_107);
+    follow(&rt, alloc, twice.bytes(), (&apart, &[]), 2, wanted)
+}
+
+#[test]
+fn a_part_of_no_records_is_bad(rt: HostRuntime) -> Result<(), Fail> {
+    let alloc = rt.alloc();
+    let log = log_of(alloc, WORDS)?;
+    let end = 16u64.saturating_add(log.len() as u64);
+    let mut sends = Text::new(alloc);
+    push_piece(&mut sends, &log, 16, end, log.len())?;
+    let wanted = (Phase::Ended(FollowEnd::BadPart), 0, FIRST_ASK);
+    follow(&rt, alloc, sends.bytes(), (&[], &[]), 1, wanted)
 }

@@ -1,4 +1,4 @@
-use Rattle.std.proofs.Common.{◌≡◌, ◌<◌, ◌^◌, length, arith}
+use Rattle.std.proofs.Common.{◌<◌, ◌^◌, length, arith}
 use Rattle.repl_node.proofs.Frames.{too_few, opened, number_read, too_long, first_there}
 use Rattle.repl_node.proofs.log_worlds.first_len.Goals as goal
 use Rattle.repl_node.proofs.log_worlds.first_len.Goals.{then-text-lt-FRAME-via-then-text-lt-FRAME, then-text-lt-FRAME-via-else-text-lt-FRAME+then-text-ne-OPEN_GATE}

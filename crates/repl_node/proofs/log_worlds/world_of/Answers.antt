@@ -1,4 +1,4 @@
-use Rattle.std.proofs.Common.{◌≡◌, ◌<◌, ◌≤◌, ◌+◌, ◌-◌, ◌^◌, ◌∙◌, ◌++◌, length, drop, sym, subst, refl, arith, ap, Err}
+use Rattle.std.proofs.Common.{◌≡◌, ◌<◌, ◌+◌, ◌-◌, ◌^◌, ◌∙◌, ◌++◌, length, drop, subst, arith, ap, Err}
 use Rattle.std.proofs.lemmas.List.{length-drop, append-nil, nil_from_length}
 use Rattle.byte_text.specs.Names.{Bytes}
 use Rattle.log_sides.specs.Texts.{batches_text, newest, with_batch}
