@@ -39,46 +39,59 @@ class Copy:
         # The other side, on which there is nothing.
         with open(os.path.join(folder, "b.log"), "ab"):
             pass
-        self.generation, self.place, self.held = self.found()
+        self.generation, self.place = self.found()
+        self.held = bytearray()
+        # Whether what is held is a log from its first batch on, which takes the place of the file.
+        self.is_anew = self.generation == 0
 
     def found(self):
-        """What stands there: its generation and the place of its closed gate."""
+        """What stands there: its generation and the place of its closed gate; none of both where there is no log."""
         try:
             with open(self.path, "rb") as log:
                 size, head = os.fstat(log.fileno()).st_size, log.read(FIRST_GATE)
                 if size <= FIRST_GATE or head[:8] != header(0)[:8]:
-                    return 0, 0, b""
+                    return 0, 0
                 place = FIRST_GATE
                 while log.seek(place) == place and log.read(1) == b"\x01":
                     place += 9 + struct.unpack(">Q", log.read(8))[0]
-                return struct.unpack(">Q", head[8:])[0], place, b""
+                return struct.unpack(">Q", head[8:])[0], place
         except FileNotFoundError:
-            return 0, 0, b""
+            return 0, 0
+
+    def wanted(self):
+        """The place behind what it has."""
+        return (FIRST_GATE if self.is_anew else self.place) + len(self.held)
 
     def ask(self):
-        return "FEED", str(self.generation), str(self.place + len(self.held))
+        return "FEED", str(self.generation), str(self.wanted())
+
+    def forget(self):
+        """Lets go what reached no end, so that it is asked for again."""
+        self.held.clear()
 
     def hear(self, generation, start, end, data):
         """Takes a part. Whether it reaches the end of the log."""
-        if generation != self.generation or start != self.place + len(self.held):
+        if generation != self.generation or start != self.wanted():
             if start != FIRST_GATE or generation < self.generation:
                 raise ValueError("a part of an earlier log")
-            self.generation, self.place, self.held = generation, 0, b""
+            self.generation, self.is_anew = generation, True
+            self.forget()
         self.held += data
         if start + len(data) < end:
             return False
-        if self.place == 0:
+        if self.is_anew:
             self.write_anew()
         elif self.held:
             self.write_behind()
-        self.place, self.held = end, b""
+        self.place, self.is_anew = end, False
+        self.forget()
         return True
 
     def write_anew(self):
         """A log of a later generation, as a whole."""
         made = self.path + ".new"
         with open(made, "wb") as log:
-            log.write(header(self.generation) + self.held + b"\0")
+            log.write(header(self.generation) + bytes(self.held) + b"\0")
             log.flush()
             os.fsync(log.fileno())
         os.replace(made, self.path)
@@ -89,7 +102,7 @@ class Copy:
     def write_behind(self):
         """Batches behind the closed gate, which is opened when they are safe."""
         with open(self.path, "r+b") as log:
-            for at, piece in ((self.place + 1, self.held[1:] + b"\0"), (self.place, self.held[:1])):
+            for at, piece in ((self.place + 1, bytes(self.held[1:]) + b"\0"), (self.place, bytes(self.held[:1]))):
                 log.seek(at)
                 log.write(piece)
                 log.flush()
@@ -136,8 +149,7 @@ def main():
         except (EOFError, ConnectionError) as gone:
             if once:
                 sys.exit(f"copy_log: the server is gone: {gone or 'the link ended'}")
-            # What reached no end is asked for again.
-            copy.held = b""
+            copy.forget()
             time.sleep(1)
 
 

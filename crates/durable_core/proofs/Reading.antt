@@ -2,9 +2,10 @@
 use Rattle.std.proofs.Common.{◌≡◌, ◌∙◌, ◌≤◌, ℕ, Bool, true, false, List, take, drop, min, arith, length-append, refl, ap, subst}
 use Rattle.std.specs.Prelude.{Option, if◌then◌else◌}
 use Rattle.byte_text.specs.Names.{Bytes}
-use Rattle.outside.specs.Sides.{Sides}
-use Rattle.log_sides.specs.Texts.{batches_text, front_text, gate_place, newest, number_bytes}
+use Rattle.outside.specs.Sides.{Sides, side_of}
+use Rattle.log_sides.specs.Texts.{StandsFor, batches_text, front_text, gate_place, newest, number_bytes}
 use Rattle.log_sides.specs.Torn.{length-number_bytes}
+use Rattle.append_log.specs.Once.{stands_once}
 use Rattle.journal.specs.Journals.{Keeps}
 use Rattle.journal.specs.Openings.{AreWhole}
 use Rattle.journal.specs.declared.journals.Journal.{Journal}
@@ -14,7 +15,8 @@ use Rattle.repl_stream.specs.declared.asks.Ask.{Ask}
 use Rattle.repl_stream.specs.declared.parts.Part.{Part}
 use Rattle.world_recovery.specs.Recorded.{record_fault, world_in}
 use Rattle.durable_core.specs.Kept.{IsKeptBy}
-use Rattle.durable_core.specs.Parts.{IsPartOfLog, IsPartOfWorld, is_within}
+use Rattle.durable_core.specs.Parts.{IsPartOfLog, IsPartOfWorld, MakeWorld, is_within}
+use Rattle.durable_core.specs.Written.{KeepsSided, Sided}
 use Rattle.durable_core.specs.declared.tails.Tail.{Tail}
 
 -- no gate stands in front of the header's end
@@ -56,3 +58,24 @@ module _ {D : Type 0} (crashes : D → Bool) (seen : D → Option Sides) (images
     world_is = kept.committed ∙ ap (λ (v : ℕ). world_in v kept.batches) latest;
     is = is kept.batches kept.copied kept.keeps;
   }
+
+-- the disk tells which batches a journal keeps
+keeps_once : {D : Type 0} (crashes : D → Bool) (seen : D → Option Sides) (images : D → Sides → Type 0) (k : Journal D) (bs xs cs ys : List Bytes) → Keeps crashes seen images k bs xs → Keeps crashes seen images k cs ys → bs ≡ cs
+keeps_once crashes seen images k bs xs cs ys one two =
+    let here = one.log.safe in
+    let there = two.log.safe in
+    let told = here.told in
+    let too = there.told in
+    let same : here.contents ≡ there.contents = cc in
+    stands_once k.log.version k.log.generation bs cs (side_of there.contents k.log.side)
+        (subst (λ (x : Sides). StandsFor k.log.version k.log.generation bs (side_of x k.log.side)) same here.has) there.has
+
+-- so they are the ones that make the committed world
+pub they_make : {D : Type 0} (crashes : D → Bool) (seen : D → Option Sides) (images : D → Sides → Type 0) (t : Tail D) (j : log.Journal) (s : Sided) → t.journal.log.version ≡ newest → IsKeptBy crashes seen images t j
+    → KeepsSided crashes seen images t.journal s → MakeWorld s.batches j.committed
+they_make crashes seen images t j s latest kept keeps =
+    let same = keeps_once crashes seen images t.journal kept.batches kept.copied s.batches s.copied kept.keeps keeps in
+    record {
+      whole = subst (AreWhole (record_fault newest)) same (subst (λ (v : ℕ). AreWhole (record_fault v) kept.batches) latest kept.whole);
+      world_is = kept.committed ∙ ap (λ (v : ℕ). world_in v kept.batches) latest ∙ ap (world_in newest) same;
+    }

@@ -24,6 +24,11 @@ pub record IsPartOfLog (ask : Ask) (generation : ℕ) (batches : List Bytes) (pa
   pub from : part.from ≡ part_from ask generation (gate_place newest generation batches)
   pub bytes_are : bytes ≡ take max_part (drop part.from (front_text newest generation batches))
 
+-- these batches are whole, and make this world
+pub record MakeWorld (batches : List Bytes) (world : World) : Type 0 where
+  pub whole : AreWhole (record_fault newest) batches
+  pub world_is : world ≡ world_in newest batches
+
 -- the same of a log whose batches are whole and make this world
 pub record IsPartOfWorld (ask : Ask) (generation : ℕ) (world : World) (part : Part) (bytes : Bytes) : Type 0 where
   pub batches : List Bytes

@@ -22,7 +22,7 @@ ghost use Rattle.durable_core.specs.Words.{is_served_rewriting};
 ghost use Rattle.tile_core.specs.Answered.{MayCall, IsAnswered, AreSessions, StayNamed};
 ghost use Rattle.object_plans.specs.Kept.{most_kept};
 ghost use Rattle.repl_stream.specs.Feeds.{IfGiven, bytes_in, called_of};
-ghost use Rattle.durable_core.specs.Parts.{IsPartOfLog, IsPartOfWorld};
+ghost use Rattle.durable_core.specs.Parts.{IsPartOfLog, IsPartOfWorld, MakeWorld};
 
 use crate::rewritings::asks_rewriting;
 use crate::tails::Tail;
@@ -396,6 +396,8 @@ impl<D: Disk> DurableCore<D> {
             → KeepsSided D.crashes D.seen D.images self.new.tail.journal
             (sided_next self.old.tail.rewriting (hall_of self.old).world
             (sided_with (pending self.old.tail.journal) s)) }
+        ensures unmoved { result ≡ CallOutcome.Memory
+            → IsMirrored D.crashes D.seen D.images self.old.tail.journal self.new.tail.journal }
         ensures memory { result ≡ CallOutcome.Memory
             → (shown_of self.new ≡ shown_of self.old) × (generation_of self.new ≡ generation_of self.old) }
         ensures writes { result ≢ CallOutcome.LogFault
@@ -440,6 +442,14 @@ impl<D: Disk> DurableCore<D> {
             → KeepsSided D.crashes D.seen D.images self.new.tail.journal
             (sided_next self.old.tail.rewriting (hall_of self.old).world
             (sided_with (pending self.old.tail.journal) s)) }
+        ensures whole { (j : Log) (s : Sided) → KeepsLogOf D.crashes D.seen D.images self.old j
+            → KeepsSided D.crashes D.seen D.images self.old.tail.journal s → called_of result ≡ CallOutcome.Ok
+            → MakeWorld
+            (sided_next self.old.tail.rewriting (hall_of self.old).world
+            (sided_with (pending self.old.tail.journal) s)).batches
+            (hall_of self.new).world }
+        ensures unmoved { called_of result ≡ CallOutcome.Memory
+            → IsMirrored D.crashes D.seen D.images self.old.tail.journal self.new.tail.journal }
         ensures writes { called_of result ≢ CallOutcome.LogFault
             → writing_of self.new
             ≡ written (hall_of self.old) event.Rewrite (outcome.Answered (called_of result)) (writing_of self.old) }

@@ -7,10 +7,10 @@ ghost use Rattle.log_record.specs.Journals as log;
 ghost use Rattle.log_sides.specs.Texts.{newest};
 ghost use Rattle.repl_stream.specs.Feeds.{IfGiven, bytes_in, called_of};
 ghost use Rattle.durable_core.specs.Kept.{IsKeptBy, LeadsTo};
-ghost use Rattle.durable_core.specs.Parts.{IsPartOfLog, IsPartOfWorld, end_of, is_within};
+ghost use Rattle.durable_core.specs.Parts.{IsPartOfLog, IsPartOfWorld, MakeWorld, end_of, is_within};
 ghost use Rattle.durable_core.specs.Rewriting.{next_rewriting};
 ghost use Rattle.durable_core.specs.Steps.{IsEnded, ended, next_generation};
-ghost use Rattle.durable_core.specs.Written.{KeepsSided, Sided, sided_next, sided_with};
+ghost use Rattle.durable_core.specs.Written.{IsMirrored, KeepsSided, Sided, sided_next, sided_with};
 ghost use Rattle.std.specs.Prelude.{if◌then◌else◌};
 
 use crate::tails::Tail;
@@ -61,6 +61,8 @@ impl<D: Disk> Tail<D> {
         ensures part { (s : Sided) → KeepsSided D.crashes D.seen D.images self.old.journal s
             → IfOk result
             (λ part. IsPartOfLog ask self.old.journal.log.generation s.batches part (bytes_in into.new)) }
+        ensures whole { (j : log.Journal) (s : Sided) → IsKeptBy D.crashes D.seen D.images self.old j
+            → KeepsSided D.crashes D.seen D.images self.old.journal s → MakeWorld s.batches j.committed }
         ensures written { (s : Sided) → KeepsSided D.crashes D.seen D.images self.old.journal s
             → OnOk result (KeepsSided D.crashes D.seen D.images self.new.journal s) }
         ensures rewriting { self.new.rewriting ≡ self.old.rewriting }
@@ -114,6 +116,14 @@ impl<D: Disk> Tail<D> {
             → called_of result ≡ CallOutcome.Ok
             → KeepsSided D.crashes D.seen D.images self.new.journal
             (sided_next self.old.rewriting core.now.hall.world (sided_with (pending self.old.journal) s)) }
+        ensures whole { (j : log.Journal) (s : Sided) → IsKeptBy D.crashes D.seen D.images self.old j
+            → core.now.hall.world ≡ log.whole j → KeepsSided D.crashes D.seen D.images self.old.journal s
+            → called_of result ≡ CallOutcome.Ok
+            → MakeWorld
+            (sided_next self.old.rewriting core.now.hall.world (sided_with (pending self.old.journal) s)).batches
+            core.now.hall.world }
+        ensures unmoved { called_of result ≡ CallOutcome.Memory
+            → IsMirrored D.crashes D.seen D.images self.old.journal self.new.journal }
         ensures rewriting { called_of result ≡ CallOutcome.Ok
             → self.new.rewriting ≡ next_rewriting core.now.hall.world self.old.rewriting }
         ensures generation { called_of result ≡ CallOutcome.Ok

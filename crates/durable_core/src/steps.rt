@@ -9,7 +9,7 @@ ghost use Rattle.log_record.specs.Journals as log;
 ghost use Rattle.durable_core.specs.Pieces.{IsNextPiece};
 ghost use Rattle.durable_core.specs.Rewriting.{items_left, next_rewriting, next_shown, shown_by};
 ghost use Rattle.durable_core.specs.Steps.{IsEnded, IsNextStep, ended, next_generation, next_version};
-ghost use Rattle.durable_core.specs.Written.{KeepsSided, Sided, sided_next, sided_with};
+ghost use Rattle.durable_core.specs.Written.{IsMirrored, KeepsSided, Sided, sided_next, sided_with};
 ghost use Rattle.log_sides.specs.Texts.{committed, newest};
 ghost use Rattle.durable_core.specs.Kept.{IsKeptBy, LeadsTo};
 ghost use Rattle.durable_core.specs.declared.rewritings.LastCopied.{LastCopied};
@@ -218,6 +218,8 @@ impl<D: Disk> Tail<D> {
             → result ≡ CallOutcome.Ok
             → KeepsSided D.crashes D.seen D.images self.new.journal
             (sided_next self.old.rewriting core.now.hall.world (sided_with (pending self.old.journal) s)) }
+        ensures unmoved { result ≡ CallOutcome.Memory
+            → IsMirrored D.crashes D.seen D.images self.old.journal self.new.journal }
         ensures told { D.crashes self.new.journal.disk ≡ D.crashes self.old.journal.disk }
     {
         match self.commit() {

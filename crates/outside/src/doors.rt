@@ -9,15 +9,17 @@ use memory::NoMemory;
 use std::alloc::Global;
 use std::marker::Model;
 
-/// Which kinds of links a door lets in.
+/// Which kinds of links a door gives out.
 #[derive(Clone, Copy, Debug, PartialEq, Eq)]
 pub enum Kinds {
-    /// Links on which requests and frames stand one behind another.
+    /// Links of callers, on which requests and frames stand one behind another.
     Plain,
     /// WebSockets, and requests for the server's own page.
     Web,
     /// Both.
     Both,
+    /// Links to whoever listens at the address: nobody is let in, and the door itself calls there at each look.
+    Dialed,
 }
 
 /// Where a door is opened, and for whom.
@@ -25,7 +27,7 @@ pub enum Kinds {
 pub struct Port<'a> {
     /// The address.
     pub addr: &'a str,
-    /// The kinds of links that are let in.
+    /// The kinds of links that it gives out.
     pub kinds: Kinds,
     /// The origins (RFC 6454) of pages that may open a WebSocket beside the server's own page, a comma between two.
     pub origins: &'a str,
@@ -36,7 +38,7 @@ pub struct Port<'a> {
 pub struct OpenPort {
     /// The address.
     pub addr: Vec<u8>,
-    /// The kinds of links that are let in.
+    /// The kinds of links that it gives out.
     pub kinds: Kinds,
     /// The origins, a comma between two.
     pub origins: Vec<u8>,
@@ -83,7 +85,8 @@ pub trait ReadyDoor {
     /// What the door shows: how it was opened, and its callers, ends and failures, each up to the greatest `u64`.
     ghost shows: { Self → DoorState };
 
-    /// Opens the door at an address, for these kinds of links and no others.
+    /// Opens the door at an address, for these kinds of links and no others. One that calls there itself may answer Ok
+    /// although nobody listens: its looks fail then.
     fn listen(&mut self, port: &Port<'_>) -> Result<(), Failed>
         ensures { Opens (shows self.old) (shows self.new) result (opened_at port.now) };
 

@@ -17,7 +17,7 @@ use Rattle.byte_text.specs.Names.{Bytes}
 use Rattle.byte_text.specs.Streams.{begun, request}
 use Rattle.repl_stream.specs.Texts.{ask_text, part_text}
 use Rattle.repl_node.specs.Deliveries.{Delivery, Hears, HearsAll}
-use Rattle.repl_node.specs.FollowedSoFar.{Adopts, FollowedSoFar, Stands, TakesTurns, Turn, all_asks_text, asks_text, parts_text}
+use Rattle.repl_node.specs.FollowedSoFar.{Adopts, FollowedSoFar, Stands, TakesTurns, Turn, all_asks_text, asks_text, parts_text, shown_now}
 use Rattle.repl_node.specs.Followers.{Asks, AsksAgain, Comes, FollowerState, Receives, IsAnswer, IsBad, Opens, WantsToRead, WantsToWrite}
 use Rattle.repl_node.specs.Followers.{WritesOut}
 use Rattle.repl_node.specs.Following.{Followed, next_ask}
@@ -29,19 +29,29 @@ use Rattle.repl_node.specs.declared.phases.Phase.TheVariants.{Asking, Published,
 
 -- ---- turns
 
-adopted : (old : Followed) (d : Delivery) (new : Followed) → Adopts old d new → Hears old d new
-adopted old d new (is, inl more) = inl (heard.More, more)
-adopted old d new (is, inr last) = inl (heard.Published, last)
+adopted : (old : Followed) (d : Delivery) (new : Followed) (others shown : List Followed) → Adopts old d new others shown → Hears old d new
+adopted old d new others shown (is, inl (more, same)) = inl (heard.More, more)
+adopted old d new others shown (is, inr (last, one)) = inl (heard.Published, last)
 
-hears_all : (old : Followed) (turns : List Turn) (new : Followed) → TakesTurns old turns new → HearsAll old (map (λ t. t.answer) turns) new
-hears_all old [] new e = e
-hears_all old (t ∷ turns) new (asks, next, adopts, later) = (next, adopted old t.answer next adopts, hears_all next turns new later)
+hears_all : (old : Followed) (turns : List Turn) (shown : List Followed) (new : Followed) → TakesTurns old turns shown new
+    → HearsAll old (map (λ t. t.answer) turns) new
+hears_all old [] shown new (e, none) = e
+hears_all old (t ∷ turns) shown new (asks, next, others, adopts, later) =
+    (next, adopted old t.answer next others shown adopts, hears_all next turns others new later)
 
-turns_more : (old : Followed) (turns : List Turn) (mid new : Followed) (t : Turn) → TakesTurns old turns mid → t.ask ≡ next_ask mid
-    → Adopts mid t.answer new → TakesTurns old (turns ++ t ∷ []) new
-turns_more old [] mid new t e asks adopts = subst (λ (n : Followed). TakesTurns n (t ∷ []) new) e (asks, new, adopts, refl)
-turns_more old (u ∷ turns) mid new t (first, next, others, later) asks adopts =
-    (first, next, others, turns_more next turns mid new t later asks adopts)
+-- the same, with more nodes behind those
+adopts_more : (old : Followed) (d : Delivery) (new : Followed) (others shown more : List Followed) → Adopts old d new others shown
+    → Adopts old d new (others ++ more) (shown ++ more)
+adopts_more old d new others shown more (is, inl (goes, same)) = (is, inl (goes, ap (λ (l : List Followed). l ++ more) same))
+adopts_more old d new others shown more (is, inr (last, one)) = (is, inr (last, ap (λ (l : List Followed). l ++ more) one))
+
+turns_more : (old : Followed) (turns : List Turn) (shown more : List Followed) (mid new : Followed) (t : Turn) → TakesTurns old turns shown mid
+    → t.ask ≡ next_ask mid → Adopts mid t.answer new [] more → TakesTurns old (turns ++ t ∷ []) (shown ++ more) new
+turns_more old [] shown more mid new t (e, none) asks adopts =
+    subst (λ (l : List Followed). TakesTurns old (t ∷ []) (l ++ more) new) (sym none)
+    (subst (λ (n : Followed). TakesTurns n (t ∷ []) more new) e (asks, new, [], adopts, (refl, refl)))
+turns_more old (u ∷ turns) shown more mid new t (first, next, others, adoption, later) asks adopts =
+    (first, next, others ++ more, adopts_more old u.answer next others shown more adoption, turns_more next turns others more mid new t later asks adopts)
 
 asks_more : (turns : List Turn) (t : Turn) → asks_text (turns ++ t ∷ []) ≡ asks_text turns ++ ask_text t.ask
 asks_more turns t = flat_map-append (λ (u : Turn). ask_text u.ask) turns (t ∷ [])
@@ -82,16 +92,22 @@ nothing_begins = refl
 abbrev state : LinkState → Followed → Bytes → Bytes → Phase → FollowerState
 state line node held out phase = record { line = line; node = node; held = held; out = out; phase = phase }
 
-so_far_at : {first : Followed} {came : LinkState} {a b : FollowerState} → b ≡ a → FollowedSoFar first came a → FollowedSoFar first came b
-so_far_at {first} {came} e s = subst (λ (f : FollowerState). FollowedSoFar first came f) (sym e) s
+so_far_at : {first : Followed} {came : LinkState} {before : List Followed} {a b : FollowerState} → b ≡ a → FollowedSoFar first came before a
+    → FollowedSoFar first came before b
+so_far_at {first} {came} {before} e s = subst (λ (f : FollowerState). FollowedSoFar first came before f) (sym e) s
+
+-- nothing more is shown while it asks, or where it has ended
+quiet : (first : Followed) (turns : List Turn) (before : List Followed) (node : Followed) → TakesTurns first turns before node
+    → TakesTurns first turns (before ++ []) node
+quiet first turns before node takes = subst (λ (l : List Followed). TakesTurns first turns l node) (sym (append-nil before)) takes
 
 -- ---- the first step
 
 opened : (line : LinkState) (node : Followed) (out : Bytes) (phase : Phase) → Asks node out phase
-    → FollowedSoFar node line (state line node [] out phase)
+    → FollowedSoFar node line [] (state line node [] out phase)
 opened line node out phase asks = record {
   turns = [];
-  takes = refl;
+  takes = (refl, none asks);
   hears = refl;
   read = [];
   rest = [];
@@ -103,17 +119,21 @@ opened line node out phase asks = record {
   later = omega arith;
 }
   where
+    none : Asks node out phase → shown_now phase node ≡ []
+    none (inl (o, p)) = ap (λ (x : Phase). shown_now x node) p
+    none (inr (o, p)) = ap (λ (x : Phase). shown_now x node) p
+
     stands : Asks node out phase → Stands [] line (state line node [] out phase) [] [] phase
     stands (inl (o, p)) = subst (λ (x : Phase). Stands [] line (state line node [] out phase) [] [] x) (sym p) (refl, nothing_begins, o)
     stands (inr (o, p)) = subst (λ (x : Phase). Stands [] line (state line node [] out phase) [] [] x) (sym p)
         (tt, (ask_text (next_ask node), refl))
 
-pub kept_open : (line : LinkState) (node : Followed) (new : FollowerState) → Opens line node new → FollowedSoFar node line new
+pub kept_open : (line : LinkState) (node : Followed) (new : FollowerState) → Opens line node new → FollowedSoFar node line [] new
 kept_open line node new (is, asks) = so_far_at is (opened line node new.out new.phase asks)
 
 -- ---- the others
 
-module _ (first : Followed) (came : LinkState) (old : FollowerState) (s : FollowedSoFar first came old) where
+module _ (first : Followed) (came : LinkState) (before : List Followed) (old : FollowerState) (s : FollowedSoFar first came before old) where
   -- what stands behind the parts, and all that was asked, while it asks
   abbrev AsksOn : Type 0
   AsksOn = (old.held ≡ s.rest) × (request s.rest ≡ begun) × (s.sent ++ old.out ≡ all_asks_text s.turns old.node)
@@ -124,13 +144,18 @@ module _ (first : Followed) (came : LinkState) (old : FollowerState) (s : Follow
   sent_all : WantsToRead old → s.sent ≡ all_asks_text s.turns old.node
   sent_all wants = sym (append-nil s.sent) ∙ ap (λ (l : Bytes). s.sent ++ l) (sym wants.1) ∙ (asks_on wants.0).2
 
+  -- what was taken, while it asks
+  takes_on : old.phase ≡ Asking → TakesTurns first s.turns before old.node
+  takes_on e = subst (λ (l : List Followed). TakesTurns first s.turns l old.node)
+      (ap (λ (p : Phase). before ++ shown_now p old.node) e ∙ append-nil before) s.takes
+
   -- an end that brings nothing
-  ended : (line : LinkState) (end : FollowEnd) → line.left ≡ old.line.left → line.held ≡ old.line.held → old.line.faults ≤ line.faults
+  ended : (line : LinkState) (end : FollowEnd) → old.phase ≡ Asking → line.left ≡ old.line.left → line.held ≡ old.line.held → old.line.faults ≤ line.faults
       → Stands s.turns came (state line old.node old.held old.out (Ended end)) s.sent s.rest (Ended end)
-      → FollowedSoFar first came (state line old.node old.held old.out (Ended end))
-  ended line end left held faults stands = record {
+      → FollowedSoFar first came before (state line old.node old.held old.out (Ended end))
+  ended line end asking left held faults stands = record {
     turns = s.turns;
-    takes = s.takes;
+    takes = quiet first s.turns before old.node (takes_on asking);
     hears = s.hears;
     read = s.read;
     rest = s.rest;
@@ -151,13 +176,13 @@ module _ (first : Followed) (came : LinkState) (old : FollowerState) (s : Follow
         ∙ ap (λ (l : Bytes). parts_text s.turns ++ (l ++ bytes)) (sym (asks_on wants.0).0)
 
     -- no part was taken
-    same : (node : Followed) (held out : Bytes) (phase : Phase) → node ≡ old.node
+    same : (node : Followed) (held out : Bytes) (phase : Phase) → node ≡ old.node → shown_now phase node ≡ []
         → Stands s.turns came (state line node held out phase) s.sent (old.held ++ bytes) phase
-        → FollowedSoFar first came (state line node held out phase)
-    same node held out phase is stands = record {
+        → FollowedSoFar first came before (state line node held out phase)
+    same node held out phase is none stands = record {
       turns = s.turns;
-      takes = takes;
-      hears = hears_all first s.turns node takes;
+      takes = subst (λ (l : List Followed). TakesTurns first s.turns (before ++ l) node) (sym none) (quiet first s.turns before node takes);
+      hears = hears_all first s.turns before node takes;
       read = s.read ++ bytes;
       rest = old.held ++ bytes;
       consumed = consumes_more came.left old.line.left line.left s.read bytes s.consumed consumed;
@@ -168,8 +193,8 @@ module _ (first : Followed) (came : LinkState) (old : FollowerState) (s : Follow
       later = omega (arith, s.later, faults);
     }
       where
-        takes : TakesTurns first s.turns node
-        takes = subst (λ (n : Followed). TakesTurns first s.turns n) (sym is) s.takes
+        takes : TakesTurns first s.turns before node
+        takes = subst (λ (n : Followed). TakesTurns first s.turns before n) (sym is) (takes_on wants.0)
 
     abbrev turn : Delivery → Turn
     turn d = record { ask = next_ask old.node; answer = d }
@@ -181,12 +206,14 @@ module _ (first : Followed) (came : LinkState) (old : FollowerState) (s : Follow
     sent_turn d = sent_all wants ∙ sym (asks_more s.turns (turn d))
 
     -- a part was
-    took : (d : Delivery) (node : Followed) (held out : Bytes) (phase : Phase) → IsAnswer (old.held ++ bytes) d → Adopts old.node d node
-        → Stands (with_turn d) came (state line node held out phase) s.sent [] phase → FollowedSoFar first came (state line node held out phase)
+    took : (d : Delivery) (node : Followed) (held out : Bytes) (phase : Phase) → IsAnswer (old.held ++ bytes) d
+        → Adopts old.node d node [] (shown_now phase node)
+        → Stands (with_turn d) came (state line node held out phase) s.sent [] phase
+        → FollowedSoFar first came before (state line node held out phase)
     took d node held out phase answer adopts stands = record {
       turns = with_turn d;
       takes = takes;
-      hears = hears_all first (with_turn d) node takes;
+      hears = hears_all first (with_turn d) (before ++ shown_now phase node) node takes;
       read = s.read ++ bytes;
       rest = [];
       consumed = consumes_more came.left old.line.left line.left s.read bytes s.consumed consumed;
@@ -198,36 +225,36 @@ module _ (first : Followed) (came : LinkState) (old : FollowerState) (s : Follow
       later = omega (arith, s.later, faults);
     }
       where
-        takes : TakesTurns first (with_turn d) node
-        takes = turns_more first s.turns old.node node (turn d) s.takes refl adopts
+        takes : TakesTurns first (with_turn d) (before ++ shown_now phase node) node
+        takes = turns_more first s.turns before (shown_now phase node) old.node node (turn d) (takes_on wants.0) refl adopts
 
     came_in : (node : Followed) (held out : Bytes) (phase : Phase) → Comes (old.held ++ bytes) old.node node held out phase
-        → FollowedSoFar first came (state line node held out phase)
-    came_in node held out Asking (inl (begins, is, h, o)) = same node held out Asking is (
+        → FollowedSoFar first came before (state line node held out phase)
+    came_in node held out Asking (inl (begins, is, h, o)) = same node held out Asking is refl (
       h,
       begins,
       ap (λ (l : Bytes). s.sent ++ l) o ∙ append-nil s.sent ∙ sent_all wants ∙ ap (λ (n : Followed). all_asks_text s.turns n) (sym is),
     )
-    came_in node held out Asking (inr (m, h, o)) = took m.answer node held out Asking m.is_answer (m.is_answer.part, inl m.goes_on) (
+    came_in node held out Asking (inr (m, h, o)) = took m.answer node held out Asking m.is_answer (m.is_answer.part, inl (m.goes_on, refl)) (
       h,
       nothing_begins,
       ap (λ (l : Bytes). s.sent ++ l) o ∙ ap (λ (l : Bytes). l ++ ask_text (next_ask node)) (sent_turn m.answer),
     )
-    came_in node held out Published (m, h, o) = took m.answer node held out Published m.is_answer (m.is_answer.part, inr m.publishes) (
+    came_in node held out Published (m, h, o) = took m.answer node held out Published m.is_answer (m.is_answer.part, inr (m.publishes, refl)) (
       h,
       refl,
       sent_turn m.answer,
       record { before = s.turns; last = turn m.answer; turns_are = refl; old = old.node; publishes = m.publishes },
     )
-    came_in node held out (Ended BadPart) (bad, is) = same node held out (Ended BadPart) is (
+    came_in node held out (Ended BadPart) (bad, is) = same node held out (Ended BadPart) is refl (
       subst (λ (n : Followed). IsBad n (old.held ++ bytes)) (sym is) bad,
       sent_all wants ∙ ap (λ (n : Followed). all_asks_text s.turns n) (sym is),
     )
-    came_in node held out (Ended Memory) (inl is) = same node held out (Ended Memory) is (
+    came_in node held out (Ended Memory) (inl is) = same node held out (Ended Memory) is refl (
       tt,
       ([], append-nil s.sent ∙ sent_all wants ∙ ap (λ (n : Followed). all_asks_text s.turns n) (sym is)),
     )
-    came_in node held out (Ended Memory) (inr m) = took m.answer node held out (Ended Memory) m.is_answer (m.is_answer.part, inl m.goes_on) (
+    came_in node held out (Ended Memory) (inr m) = took m.answer node held out (Ended Memory) m.is_answer (m.is_answer.part, inl (m.goes_on, refl)) (
       tt,
       (ask_text (next_ask node), ap (λ (l : Bytes). l ++ ask_text (next_ask node)) (sent_turn m.answer)),
     )
@@ -236,20 +263,20 @@ module _ (first : Followed) (came : LinkState) (old : FollowerState) (s : Follow
     came_in node held out (Ended WriteFault) c = absurd c
 
   pub kept_read : {E : Type 0} → (new : FollowerState) (r : Result Got E) (into : Bytes) → WantsToRead old → Reads old.line new.line r into
-      → Receives old new r into → FollowedSoFar first came new
+      → Receives old new r into → FollowedSoFar first came before new
   kept_read new (Ok (got.Bytes n)) into wants (consumed, is) comes =
       came_in wants new.line (take n into) consumed (held_of is) (no_less is) new.node new.held new.out new.phase comes
   kept_read new (Ok got.End) into wants (at_end, is) e = so_far_at e
-      (ended old.line Over refl refl (omega arith) ((at_end, (asks_on wants.0).1), sent_all wants))
+      (ended old.line Over wants.0 refl refl (omega arith) ((at_end, (asks_on wants.0).1), sent_all wants))
   kept_read new (Ok got.Later) into wants is e = so_far_at e s
   kept_read new (Err x) into wants fails e = so_far_at e
-      (ended new.line ReadFault (left_of fails.same) (held_of fails.same) fails.later
+      (ended new.line ReadFault wants.0 (left_of fails.same) (held_of fails.same) fails.later
       ((rose_later came.faults old.line.faults new.line.faults s.later fails.rose, (asks_on wants.0).1), sent_all wants))
 
   -- ---- bytes were written
 
   wrote : (line : LinkState) (n : ℕ) → old.phase ≡ Asking → Appends old.line.held line.held (take n old.out) → line.left ≡ old.line.left
-      → old.line.faults ≤ line.faults → FollowedSoFar first came (state line old.node old.held (drop n old.out) old.phase)
+      → old.line.faults ≤ line.faults → FollowedSoFar first came before (state line old.node old.held (drop n old.out) old.phase)
   wrote line n e appends left faults = record {
     turns = s.turns;
     takes = s.takes;
@@ -270,20 +297,22 @@ module _ (first : Followed) (came : LinkState) (old : FollowerState) (s : Follow
   }
 
   pub kept_write : {E : Type 0} → (new : FollowerState) (r : Result Sent E) → WantsToWrite old → Writes old.line new.line r old.out
-      → WritesOut old new r → FollowedSoFar first came new
+      → WritesOut old new r → FollowedSoFar first came before new
   kept_write new (Ok (sent.Bytes n)) wants (appends, is) e = so_far_at e (wrote new.line n wants.0 appends (left_of is) (no_less is))
   kept_write new (Ok sent.Later) wants is e = so_far_at e s
   kept_write new (Err x) wants fails e = so_far_at e
-      (ended new.line WriteFault (left_of fails.same) (held_of fails.same) fails.later
+      (ended new.line WriteFault wants.0 (left_of fails.same) (held_of fails.same) fails.later
       ((rose_later came.faults old.line.faults new.line.faults s.later fails.rose, (asks_on wants.0).1), (old.out, (asks_on wants.0).2)))
 
   -- ---- it asks again
 
   asked : (out : Bytes) (phase : Phase) → old.phase ≡ Published → Asks old.node out phase
-      → FollowedSoFar first came (state old.line old.node old.held out phase)
+      → FollowedSoFar first came (before ++ old.node ∷ []) (state old.line old.node old.held out phase)
   asked out phase e asks = record {
     turns = s.turns;
-    takes = s.takes;
+    takes = subst (λ (l : List Followed). TakesTurns first s.turns ((before ++ old.node ∷ []) ++ l) old.node) (sym (none asks))
+        (quiet first s.turns (before ++ old.node ∷ []) old.node
+        (subst (λ (p : Phase). TakesTurns first s.turns (before ++ shown_now p old.node) old.node) e s.takes));
     hears = s.hears;
     read = s.read;
     rest = s.rest;
@@ -295,6 +324,10 @@ module _ (first : Followed) (came : LinkState) (old : FollowerState) (s : Follow
     later = s.later;
   }
     where
+      none : Asks old.node out phase → shown_now phase old.node ≡ []
+      none (inl (o, p)) = ap (λ (x : Phase). shown_now x old.node) p
+      none (inr (o, p)) = ap (λ (x : Phase). shown_now x old.node) p
+
       behind : Stands s.turns came old s.sent s.rest Published
       behind = subst (λ (p : Phase). Stands s.turns came old s.sent s.rest p) e s.stands
 
@@ -309,5 +342,6 @@ module _ (first : Followed) (came : LinkState) (old : FollowerState) (s : Follow
         (ask_text (next_ask old.node), ap (λ (l : Bytes). l ++ ask_text (next_ask old.node)) behind.2),
       )
 
-  pub kept_ask : (new : FollowerState) → old.phase ≡ Published → AsksAgain old new → FollowedSoFar first came new
+  pub kept_ask : (new : FollowerState) → old.phase ≡ Published → AsksAgain old new
+      → FollowedSoFar first came (before ++ old.node ∷ []) new
   kept_ask new e (is, asks) = so_far_at is (asked new.out new.phase e asks)

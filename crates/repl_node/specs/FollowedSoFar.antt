@@ -21,14 +21,17 @@ pub record Turn : Type 0 where
   pub ask : Ask
   pub answer : Delivery
 
--- a node takes a part of the right numbers
-abbrev pub Adopts : Followed → Delivery → Followed → Type 0
-Adopts old d new = IsPart d.part d.bytes × (GoesOn old d.part d.bytes new ⊎ Publishes old d.part d.bytes new)
+-- a node takes a part of the right numbers; where that publishes a world, it is the first of these nodes, in front of the others
+abbrev pub Adopts : Followed → Delivery → Followed → List Followed → List Followed → Type 0
+Adopts old d new others shown = IsPart d.part d.bytes
+    × ((GoesOn old d.part d.bytes new × (shown ≡ others)) ⊎ (Publishes old d.part d.bytes new × (shown ≡ new ∷ others)))
 
--- a node asks, takes the part that answers, asks for what it wants behind that, and so on
-abbrev pub TakesTurns : Followed → List Turn → Followed → Type 0
-TakesTurns old [] new = new ≡ old
-TakesTurns old (t ∷ later) new = (t.ask ≡ next_ask old) × (next : Followed) × Adopts old t.answer next × TakesTurns next later new
+-- A node asks, takes the part that answers, asks for what it wants behind that, and so on. It was these nodes, in order, as worlds were
+-- published, one for each part that reached the end of the log.
+abbrev pub TakesTurns : Followed → List Turn → List Followed → Followed → Type 0
+TakesTurns old [] shown new = (new ≡ old) × (shown ≡ [])
+TakesTurns old (t ∷ later) shown new = (t.ask ≡ next_ask old) × (next : Followed) × (others : List Followed) × Adopts old t.answer next others shown
+    × TakesTurns next later others new
 
 -- the texts of the parts, one behind another
 abbrev pub parts_text : List Turn → Bytes
@@ -70,11 +73,22 @@ Stands turns came f sent rest Asking = (f.held ≡ rest) × (request rest ≡ be
 Stands turns came f sent rest Published = (f.held ≡ []) × (rest ≡ []) × (sent ≡ asks_text turns) × EndsPublished turns f.node
 Stands turns came f sent rest (Ended end) = EndsAt end came f rest × Wrote end sent (all_asks_text turns f.node)
 
+-- the node whose world was published last, as long as nothing is asked behind that
+abbrev pub shown_now : Phase → Followed → List Followed
+shown_now Published node = node ∷ []
+shown_now Asking node = []
+shown_now (Ended end) node = []
+
+-- and all those before it
+abbrev pub all_shown : List Followed → FollowerState → List Followed
+all_shown before f = before ++ shown_now f.phase f.node
+
 -- A follower came to its state from this node and this link on: its node is the one that took these parts in order, of which each answered an
--- ask; their texts were read, and then no more than the beginning of the next one; and the texts of the asks were written, as far as they could be.
-pub record FollowedSoFar (first : Followed) (came : LinkState) (f : FollowerState) : Type 0 where
+-- ask, and these are the nodes behind whose worlds it asked again; the parts' texts were read, and then no more than the beginning of the next
+-- one; and the texts of the asks were written, as far as they could be.
+pub record FollowedSoFar (first : Followed) (came : LinkState) (before : List Followed) (f : FollowerState) : Type 0 where
   pub turns : List Turn
-  pub takes : TakesTurns first turns f.node
+  pub takes : TakesTurns first turns (all_shown before f) f.node
   pub hears : HearsAll first (map (λ t. t.answer) turns) f.node
   pub read : Bytes
   pub rest : Bytes

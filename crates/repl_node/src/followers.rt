@@ -1,6 +1,6 @@
 //! A node that follows a leader over a link, as a value that is stepped.
 
-ghost use Rattle.std.specs.Prelude.{◌≡◌, ◌<◌, [], length, Decides};
+ghost use Rattle.std.specs.Prelude.{◌≡◌, ◌<◌, ◌∷◌, ◌++◌, List, [], length, Decides};
 ghost use Rattle.outside.specs.Links.{GotWithin, LinkState, SentWithin, Reads, Writes};
 ghost use Rattle.repl_node.specs.FollowedSoFar.{FollowedSoFar};
 ghost use Rattle.repl_node.specs.Followers.{AsksAgain, Receives, IsFit, Opens, WantsToRead, WantsToWrite, WritesOut};
@@ -19,7 +19,7 @@ use std::marker::Model;
 /// published the world of the log. It is read only where its ask is written.
 #[derive(Drop)]
 pub struct Follower<K: ReadyLink> {
-    link: K,
+    pub(crate) link: K,
     node: Node,
     reader: Requests,
     out: UnsentAsk,
@@ -48,7 +48,7 @@ impl<K: ReadyLink> Follower<K> {
     #[tactic(auto, using(crate::proofs::Steps::kept_open))]
     pub fn new(alloc: Global, link: K, node: Node) -> Follower<K>
         ensures opens { Opens (K.shows link) node result }
-        ensures first { FollowedSoFar node (K.shows link) result }
+        ensures first { FollowedSoFar node (K.shows link) [] result }
     {
         let mut out = UnsentAsk::new(alloc);
         let phase = ask(&node, &mut out);
@@ -106,8 +106,8 @@ impl<K: ReadyLink> Follower<K> {
         ensures within { GotWithin result (length block.new) }
         ensures read { Reads self.old.line self.new.line result block.new }
         ensures receives { Receives self.old self.new result block.new }
-        ensures kept { (first : Followed) (came : LinkState) → FollowedSoFar first came self.old
-            → FollowedSoFar first came self.new }
+        ensures kept { (first : Followed) (came : LinkState) (before : List Followed) → FollowedSoFar first came before self.old
+            → FollowedSoFar first came before self.new }
     {
         let answer = self.link.read(block);
         match answer {
@@ -133,8 +133,8 @@ impl<K: ReadyLink> Follower<K> {
         ensures within { SentWithin result (length self.old.out) }
         ensures written { Writes self.old.line self.new.line result self.old.out }
         ensures writes { WritesOut self.old self.new result }
-        ensures kept { (first : Followed) (came : LinkState) → FollowedSoFar first came self.old
-            → FollowedSoFar first came self.new }
+        ensures kept { (first : Followed) (came : LinkState) (before : List Followed) → FollowedSoFar first came before self.old
+            → FollowedSoFar first came before self.new }
     {
         let answer = self.link.write(self.out.bytes());
         match answer {
@@ -150,8 +150,8 @@ impl<K: ReadyLink> Follower<K> {
     pub fn ask_again(&mut self)
         requires { self.old.phase ≡ Phase.Published }
         ensures asks { AsksAgain self.old self.new }
-        ensures kept { (first : Followed) (came : LinkState) → FollowedSoFar first came self.old
-            → FollowedSoFar first came self.new }
+        ensures kept { (first : Followed) (came : LinkState) (before : List Followed) → FollowedSoFar first came before self.old
+            → FollowedSoFar first came (before ++ self.old.node ∷ []) self.new }
     {
         self.phase = ask(&self.node, &mut self.out);
     }

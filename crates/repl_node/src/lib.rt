@@ -4,6 +4,7 @@
 
 mod followers;
 mod laws;
+mod links;
 mod log_worlds;
 mod nodes;
 mod part_answers;
@@ -14,6 +15,7 @@ mod unsent_asks;
 
 pub use followers::Follower;
 pub use laws::followers_show_beginnings;
+pub use links::{follow_link, watch_link};
 pub use log_worlds::HearFault;
 pub use nodes::{Heard, LogPlace, Node};
 pub use phases::{FollowEnd, Phase};

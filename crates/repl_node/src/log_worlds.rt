@@ -1,10 +1,11 @@
-//! The world of the batches that stand behind the header of a log.
+//! Worlds that are folded on with a log, by the batches that stand behind its header.
 
 ghost use Rattle.std.specs.Prelude.{Err, ◌≡◌, List, [], IfOk, IfSome, IfNone};
 ghost use Rattle.byte_text.specs.Names.{Bytes};
 ghost use Rattle.log_sides.specs.Texts.{newest};
 ghost use Rattle.world_recovery.specs.Replayed.{StandsFor};
-ghost use Rattle.repl_node.specs.LogTexts.{IsFirstLen, IsNoBatch, IsNoFrame, IsNoLog, IsTaken, IsWorldOf};
+ghost use Rattle.repl_node.specs.LogTexts.{IsFirstLen, IsNoBatch, IsNoFrame, IsNoLog, IsTaken};
+ghost use Rattle.repl_node.specs.LogWorlds.{HasAll, HasTaken};
 
 use byte_text::NoMemory;
 use journal::{Refusal, Replay};
@@ -37,20 +38,64 @@ impl From<NoMemory> for HearFault {
     }
 }
 
-/// The world of the batches of which bytes are the text.
-pub(crate) fn world_of(alloc: Global, text: &[u8]) -> Result<StoredWorld, HearFault>
-    ensures ok { IfOk result (IsWorldOf text.now) }
-    ensures refused { result ≡ Err HearFault.NotRecords → IsNoLog text.now }
-{
-    let mut replay = WorldReplay::new(alloc);
-    let mut at = 0;
-    while at < text.len() {
-        match take_batch(&mut replay, &text[at..]) {
-            Ok(taken) => at += taken,
-            Err(fault) => return Err(fault),
+/// A world that is folded on with a log: it has the batches in the first bytes of it.
+#[derive(Drop)]
+pub(crate) struct LogWorld {
+    pub(crate) replay: WorldReplay,
+    // How many bytes of the log these batches have.
+    pub(crate) at: usize,
+}
+
+impl LogWorld {
+    /// The world of no batch, with which each log begins.
+    pub(crate) fn new(alloc: Global) -> LogWorld
+        ensures none { StandsFor result.replay newest [] [] }
+        ensures at { result.at ≡ 0 }
+    {
+        LogWorld {
+            replay: WorldReplay::new(alloc),
+            at: 0,
         }
     }
-    Ok(replay.into_world())
+
+    /// The world.
+    pub(crate) fn world(&self) -> &StoredWorld
+        ensures { result.now ≡ self.now.replay.world }
+    {
+        self.replay.world()
+    }
+
+    /// Takes the batches behind those that it has, up to the end of the log.
+    pub(crate) fn fold_on(self, log: &[u8]) -> Result<LogWorld, HearFault>
+        requires { HasTaken log.now self }
+        ensures ok { IfOk result (HasAll log.now) }
+        ensures refused { result ≡ Err HearFault.NotRecords → IsNoLog log.now }
+    {
+        let LogWorld { mut replay, mut at } = self;
+        while at < log.len() {
+            match take_batch(&mut replay, &log[at..]) {
+                Ok(taken) => at += taken,
+                Err(fault) => return Err(fault),
+            }
+        }
+        Ok(LogWorld { replay, at })
+    }
+}
+
+/// The world of a log up to its end: the second world folded on, or else a new one.
+pub(crate) fn folded(
+    alloc: Global,
+    second: Option<LogWorld>,
+    log: &[u8],
+) -> Result<LogWorld, HearFault>
+    requires { IfSome second (HasTaken log.now) }
+    ensures ok { IfOk result (HasAll log.now) }
+    ensures refused { result ≡ Err HearFault.NotRecords → IsNoLog log.now }
+{
+    match second {
+        Some(world) => world.fold_on(log),
+        None => LogWorld::new(alloc).fold_on(log),
+    }
 }
 
 // How many bytes the batch at the front of some bytes has, where it stands there whole behind an open gate.

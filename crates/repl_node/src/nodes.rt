@@ -2,18 +2,17 @@
 
 ghost use Rattle.std.specs.Prelude.{Err, ◌≡◌, ◌<◌, length, None, Some, IfNone, IfSome, IfOk, OnErr};
 ghost use Rattle.world_data.specs.Worlds.{empty_world, object_at};
-ghost use Rattle.world_store.specs.Stored.{world_of};
 ghost use Rattle.repl_node.specs.Following.{IsHeard, IsNoPiece, IsPiece, IsRefused, first_node, first_place, is_next};
 ghost use Rattle.repl_node.specs.Following.{next_ask, place};
 
-use crate::log_worlds::{HearFault, world_of};
+use crate::log_worlds::{HearFault, LogWorld, folded};
 use byte_text::{Name, Text};
 use log_sides::FIRST_GATE;
 use repl_stream::{Ask, Part};
 use std::alloc::Global;
 use std::marker::Model;
+use std::mem;
 use world_data::Object;
-use world_store::{StoreParts, StoredWorld};
 
 /// A place in the log of a leader: behind it stands what was not read yet.
 #[derive(Clone, Copy, Debug, PartialEq, Eq)]
@@ -35,8 +34,10 @@ pub enum Heard {
 
 /// What a follower has of the log that it reads, and the world that it published last.
 ///
-/// The bytes of the log are kept until a later log begins, and are read anew where a world is published: so a part that
-/// is refused, or for which memory wants, leaves the node as it was.
+/// Beside the published world it has a second one, which is folded on where a world is published and then takes the
+/// other one's place: so what a part costs hangs on what is new, and a part that is refused, or for which memory wants,
+/// leaves what is published as it was. The bytes of the log are kept until a later log begins: a second world that met
+/// a fault is of no use, and the next one begins with them.
 #[derive(Drop)]
 pub struct Node {
     alloc: Global,
@@ -48,13 +49,14 @@ pub struct Node {
     log: Text,
     // Up to where the published world goes.
     published: LogPlace,
-    world: StoreParts,
+    shown: LogWorld,
+    second: Option<LogWorld>,
 }
 
 impl Model for Node {
     ghost use Rattle.std.specs.Prelude.{◌≡◌, ◌+◌, length};
-    ghost use Rattle.world_store.specs.Stored.{world_of};
     ghost use Rattle.repl_node.specs.Following.{Followed, IsShown, first_place};
+    ghost use Rattle.repl_node.specs.LogWorlds.{AreFolded};
 
     ghost Value = { Followed };
 
@@ -62,11 +64,12 @@ impl Model for Node {
       generation = n.generation;
       taken = n.log;
       published = n.published;
-      world = world_of n.world;
+      world = n.shown.replay.world;
     } };
 
     ghost invariant = { λ n. (n.place ≡ first_place n.generation + length n.log)
-        × IsShown n.generation n.log n.published (world_of n.world) };
+        × IsShown n.generation n.log n.published n.shown.replay.world
+        × AreFolded n.generation n.log n.published n.shown n.second };
 }
 
 impl Node {
@@ -84,7 +87,8 @@ impl Node {
                 generation: 0,
                 place: 0,
             },
-            world: StoredWorld::new(alloc).into_parts(),
+            shown: LogWorld::new(alloc),
+            second: None,
         }
     }
 
@@ -109,14 +113,14 @@ impl Node {
     pub fn objects(&self) -> u64
         ensures { result ≡ length self.now.world.objects }
     {
-        self.world.objects.len() as u64
+        self.shown.world().objects() as u64
     }
 
     /// How many channels the published world has.
     pub fn channels(&self) -> u64
         ensures { result ≡ length self.now.world.channels }
     {
-        self.world.hub.len() as u64
+        self.shown.world().channels() as u64
     }
 
     /// The object of this key and this id in the published world.
@@ -124,7 +128,7 @@ impl Node {
         ensures none { IfNone result (object_at self.now.world key.now id.now ≡ None) }
         ensures some { IfSome result (λ o. object_at self.now.world key.now id.now ≡ Some o.now) }
     {
-        self.world.objects.get(key, id)
+        self.shown.world().get(key, id)
     }
 
     /// Takes a part with its bytes, if it goes on with what the node has or begins a later log. Where it reaches the
@@ -181,11 +185,16 @@ impl Node {
             self.place = reached;
             return Ok(Heard::More);
         }
-        match world_of(self.alloc, self.log.bytes()) {
+        let second = self.second.take();
+        match folded(self.alloc, second, self.log.bytes()) {
             Ok(world) => {
+                let last = mem::replace(&mut self.shown, world);
+                // That of an earlier log is of no use.
+                if self.published.generation == part.generation {
+                    self.second = Some(last);
+                }
                 self.place = reached;
                 self.published = end;
-                self.world = world.into_parts();
                 Ok(Heard::Published)
             }
             Err(fault) => {
@@ -204,6 +213,8 @@ impl Node {
         ensures fault { OnErr result (self.new ≡ self.old) }
         ensures refused { result ≡ Err HearFault.NotRecords → IsRefused self.old part.now bytes.now }
     {
+        // The second world is of no use to it, and gives its memory back first.
+        self.second = None;
         let log = Text::of(self.alloc, bytes)?;
         if reached < part.end {
             self.generation = part.generation;
@@ -211,7 +222,7 @@ impl Node {
             self.log = log;
             return Ok(Heard::More);
         }
-        let world = world_of(self.alloc, log.bytes())?;
+        let world = LogWorld::new(self.alloc).fold_on(log.bytes())?;
         self.generation = part.generation;
         self.place = reached;
         self.log = log;
@@ -219,7 +230,7 @@ impl Node {
             generation: part.generation,
             place: reached,
         };
-        self.world = world.into_parts();
+        self.shown = world;
         Ok(Heard::Published)
     }
 }

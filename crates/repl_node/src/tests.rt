@@ -1,7 +1,7 @@
 //! Nodes that hear parts of logs in memory, and followers of leaders over links in memory.
 
 use crate::{FollowEnd, Follower, HearFault, Heard, Node, Phase};
-use byte_text::{Name, NoMemory, Text, push_array_head, push_bulk};
+use byte_text::{Name, NoMemory, Text, push_array_head, push_bulk, push_u64};
 use outside::{CallerScript, Move, ScriptedLink};
 use repl_stream::{Ask, MAX_PART, Part, push_part};
 use std::alloc::Global;
@@ -81,11 +81,16 @@ fn log_of(alloc: Global, batches: &str) -> Result<Text, NoMemory> {
         for record in line.trim().split(" ; ") {
             push_record(&mut batch, record)?;
         }
-        log.push(&[1])?;
-        log.push(&(batch.len() as u64).to_be_bytes())?;
-        log.push(batch.bytes())?;
+        push_batch(&mut log, &batch)?;
     }
     Ok(log)
+}
+
+// Appends a batch behind an open gate and its length.
+fn push_batch(log: &mut Text, batch: &Text) -> Result<(), NoMemory> {
+    log.push(&[1])?;
+    log.push(&(batch.len() as u64).to_be_bytes())?;
+    log.push(batch.bytes())
 }
 
 // So many bytes of a log from a place on; what is missing there is left out.
@@ -195,6 +200,85 @@ fn a_log_is_cut_anywhere(rt: HostRuntime) -> Result<(), Fail> {
             node.published().place,
             16u64.saturating_add(log.len() as u64)
         );
+    }
+    Ok(())
+}
+
+// A number's digits behind one text and in front of another.
+fn numbered(alloc: Global, front: &str, number: u64, behind: &str) -> Result<Text, NoMemory> {
+    let mut text = Text::of(alloc, front.as_bytes())?;
+    push_u64(&mut text, number)?;
+    text.push(behind.as_bytes())?;
+    Ok(text)
+}
+
+// Appends the batch that sets the object of a number, and takes out that of its half.
+fn push_step(log: &mut Text, alloc: Global, number: u64) -> Result<(), NoMemory> {
+    let id = numbered(alloc, "", number, "")?;
+    let half = numbered(alloc, "", number / 2, "")?;
+    let object = numbered(alloc, r#"{"type":"Point","coordinates":["#, number, ",1]}")?;
+    let mut batch = Text::new(alloc);
+    push_array_head(&mut batch, 5)?;
+    for word in [
+        b"SET",
+        b"k".as_slice(),
+        id.bytes(),
+        b"OBJECT",
+        object.bytes(),
+    ] {
+        push_bulk(&mut batch, word)?;
+    }
+    push_array_head(&mut batch, 3)?;
+    for word in [b"DEL", b"k".as_slice(), half.bytes()] {
+        push_bulk(&mut batch, word)?;
+    }
+    push_batch(log, &batch)
+}
+
+// Hears bytes of the first log that stand from a place on up to its end.
+fn hear_to_end(node: &mut Node, from: u64, bytes: &[u8]) -> Result<Heard, HearFault> {
+    let part = Part {
+        generation: 1,
+        from,
+        end: from.saturating_add(bytes.len() as u64),
+    };
+    node.hear(&part, bytes)
+}
+
+// Whether two nodes show the same of the objects up to a number.
+fn show_same(alloc: Global, one: &Node, other: &Node, last: u64) -> Result<bool, Fail> {
+    let key = Name::of(alloc, b"k")?;
+    for number in 0..=last {
+        let digits = numbered(alloc, "", number, "")?;
+        let id = Name::of(alloc, digits.bytes())?;
+        let text = one.get(&key, &id).map(|o| o.text.bytes());
+        if other.get(&key, &id).map(|o| o.text.bytes()) != text {
+            return Ok(false);
+        }
+    }
+    Ok(one.published() == other.published())
+}
+
+#[test]
+fn a_log_grows_by_small_parts(rt: HostRuntime) -> Result<(), Fail> {
+    let alloc = rt.alloc();
+    let words = log_of(alloc, WORDS)?;
+    let mut log = Text::new(alloc);
+    let mut node = Node::new(alloc);
+    for number in 0..100u64 {
+        let from = 16u64.saturating_add(log.len() as u64);
+        if number % 10 == 9 {
+            // The next part is taken behind a fault.
+            let answer = hear_to_end(&mut node, from, words.bytes());
+            assert_eq!(rt; answer, NOT_RECORDS, "before {number}");
+        }
+        push_step(&mut log, alloc, number)?;
+        let answer = hear_to_end(&mut node, from, piece(&log, from, log.len()));
+        assert_eq!(rt; answer, PUBLISHED, "at {number}");
+        assert_eq!(rt; node.objects(), number.abs_diff(number / 2), "at {number}");
+        let mut whole = Node::new(alloc);
+        assert_eq!(rt; hear_to_end(&mut whole, 16, log.bytes()), PUBLISHED);
+        assert!(rt; show_same(alloc, &node, &whole, number)?, "at {number}");
     }
     Ok(())
 }

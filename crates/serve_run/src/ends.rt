@@ -14,7 +14,8 @@ pub const DISK_FAULT: &[u8] = b"disk fault\n";
 /// The last line of status 7.
 pub const OUT_OF_MEMORY: &[u8] = b"out of memory\n";
 
-pub(crate) const DOOR_FAULT: &[u8] = b"door fault\n";
+/// The last line of status 8.
+pub const DOOR_FAULT: &[u8] = b"door fault\n";
 
 /// The last line of status 9.
 pub const SPENT: &[u8] = b"spent\n";

@@ -88,8 +88,8 @@ fn number_in(word: Option<&str>, least: u32, most: u32, unsaid: u32) -> Option<u
     }
 }
 
-// Whether the flag was given.
-fn is_given(word: Option<&str>) -> bool
+/// Whether a flag was given, by the word that was found under its name.
+pub fn is_given(word: Option<&str>) -> bool
     ensures { result ≡ is_given (word_of word.entry) }
 {
     match word {

@@ -1,10 +1,11 @@
 -- What each call of a core is to its history: an act.
-use Rattle.std.proofs.Common.{◌≡◌, ◌≤◌, ℕ, Bool, true, false, Option, refl, sym, ap, ◌∙◌, subst, arith, true≢false}
+use Rattle.std.proofs.Common.{◌≡◌, ◌⊎◌, ◌≤◌, ℕ, Bool, true, false, [], Option, refl, sym, ap, ◌∙◌, subst, arith, inl, true≢false}
 use Rattle.std.specs.Prelude.{◌||◌, Some}
+use Rattle.byte_text.specs.Names.{Bytes}
 use Rattle.outside.specs.Causes.{Rose}
 use Rattle.outside.specs.Sides.{Sides}
 use Rattle.world_model.specs.Halls.{Hall}
-use Rattle.world_model.specs.Histories.{Step, when_stopped, stopped, is_log_fault}
+use Rattle.world_model.specs.Histories.{Step, when_stopped, stopped, is_log_fault, is_rewrite}
 use Rattle.world_model.specs.Seats.{Act}
 use Rattle.world_model.specs.declared.events.CallOutcome.{CallOutcome}
 use Rattle.world_model.specs.declared.events.CallOutcome.TheVariants as called
@@ -22,15 +23,20 @@ use Rattle.durable_core.specs.Logged.{hall_of, disk_of, generation_of, KeepsLogO
 use Rattle.durable_core.specs.StepLaws.{stops, same_hall}
 use Rattle.durable_core.specs.declared.cores.DurableCore.{DurableCore}
 use Rattle.durable_core.specs.Histories.{Writing, is_failed_step, written, writing_of}
-use Rattle.shared_hall.specs.Cores.{hall_in, writing_in, disk_in, has_left, KeepsIn, Acts}
+use Rattle.shared_hall.specs.Cores.{hall_in, writing_in, disk_in, has_left, KeepsIn, ActsNoted}
 use Rattle.shared_hall.specs.Turns.{GivesOut}
 use Rattle.shared_hall.specs.declared.places.Place.{Place}
 use Rattle.shared_hall.specs.declared.places.Place.TheVariants.{Inside}
+use Rattle.shared_hall.proofs.Growing.{HasFed}
 use Rattle.shared_hall.proofs.Writes.{nothing_written}
 
 module _ {D : Type 0} (crashes : D → Bool) (seen : D → Option Sides) (images : D → Sides → Type 0) (moment : D → ℕ) (left_since : D → ℕ → Sides → Type 0) (faults : D → ℕ) where
-  abbrev Acted : Place D → Place D → Act → Type 0
-  Acted = Acts crashes seen images moment left_since faults
+  abbrev Acted : Place D → Place D → Act → Bytes → Type 0
+  Acted = ActsNoted crashes seen images moment left_since faults
+
+  -- what it makes of the log's batches
+  abbrev Fed : DurableCore D → DurableCore D → Bytes → Type 0
+  Fed = HasFed crashes seen images
 
   -- what an event does to a rewriting
   abbrev HasWritten : DurableCore D → DurableCore D → Event → Outcome → Type 0
@@ -41,13 +47,19 @@ module _ {D : Type 0} (crashes : D → Bool) (seen : D → Option Sides) (images
   not_earlier old new h next event outcome before after turn true is = let same = ap moment (turn.stopped is) in omega (arith, same)
   not_earlier old new h next event outcome before after turn false is = (turn.leaves is).later
 
+  -- which event may bear a note
+  abbrev MayNote : Event → DurableCore D → Bytes → Type 0
+  MayNote event d note = (note ≡ []) ⊎ ((is_rewrite event ≡ true) × ((hall_of d).stopped ≡ false))
+
   -- a call of a core
-  pub acted_inside : (c d : DurableCore D) (event : Event) (outcome : Outcome) → is_retire event ≡ false → Step (hall_of c) event outcome (hall_of d) → HasWritten c d event outcome
+  pub acted_inside : (c d : DurableCore D) (event : Event) (outcome : Outcome) (note : Bytes) → is_retire event ≡ false → Step (hall_of c) event outcome (hall_of d) → HasWritten c d event outcome
       → (is_log_fault outcome ≡ true → Rose (faults (disk_of c)) (faults (disk_of d))) → faults (disk_of c) ≤ faults (disk_of d) → crashes (disk_of d) ≡ crashes (disk_of c)
       → ((j : Journal) → KeepsLogOf crashes seen images c j → GoesOn crashes seen images moment left_since c d event outcome j)
-      → Acted (Inside c) (Inside d) (event, outcome)
-  acted_inside c d event outcome stays step writes cause later told log = record {
+      → MayNote event d note → Fed c d note → Acted (Inside c) (Inside d) (event, outcome) note
+  acted_inside c d event outcome note stays step writes cause later told log may fed = record {
     step = step;
+    noted = may;
+    fed = fed;
     writes = writes;
     later = later;
     cause = cause;
@@ -63,13 +75,13 @@ module _ {D : Type 0} (crashes : D → Bool) (seen : D → Option Sides) (images
   -- one that leaves the disk alone
   pub acted_beside : (c d : DurableCore D) (event : Event) (outcome : Outcome) → is_retire event ≡ false → Step (hall_of c) event outcome (hall_of d) → HasWritten c d event outcome → is_log_fault outcome ≡ false → disk_of d ≡ disk_of c
       → ((j : Journal) → KeepsLogOf crashes seen images c j → GoesOn crashes seen images moment left_since c d event outcome j)
-      → Acted (Inside c) (Inside d) (event, outcome)
-  acted_beside c d event outcome stays step writes fine same log =
+      → Fed c d [] → Acted (Inside c) (Inside d) (event, outcome) []
+  acted_beside c d event outcome stays step writes fine same log fed =
       let kept = ap faults same in
-      acted_inside c d event outcome stays step writes (λ failed. absurd (true≢false (sym failed ∙ fine))) (omega (arith, kept)) (ap crashes same) log
+      acted_inside c d event outcome [] stays step writes (λ failed. absurd (true≢false (sym failed ∙ fine))) (omega (arith, kept)) (ap crashes same) log (inl refl) fed
 
   -- a core whose disk was given out does nothing
-  acted_outside : (p : Place D) (event : Event) → has_left p ≡ true → (hall_in p).stopped ≡ true → ((disk : D) → TellsNow images moment left_since disk) → Acted p p (event, when_stopped event)
+  acted_outside : (p : Place D) (event : Event) → has_left p ≡ true → (hall_in p).stopped ≡ true → ((disk : D) → TellsNow images moment left_since disk) → Acted p p (event, when_stopped event) []
   acted_outside p event left is tells =
       let h = hall_in p in
       let d = disk_in p in
@@ -81,6 +93,8 @@ module _ {D : Type 0} (crashes : D → Bool) (seen : D → Option Sides) (images
         told = refl;
         out = left ∙ sym (ap (λ (b : Bool). b || is_retire event) left);
         stays = λ _. refl;
+        noted = inl refl;
+        fed = λ goes. absurd (true≢false (sym is ∙ goes));
         writes = λ _. nothing_written h event (writing_in p);
         log = λ j kept crash.
             let turn : Turn images moment left_since d d h j event (when_stopped event) h j = record {
@@ -95,22 +109,28 @@ module _ {D : Type 0} (crashes : D → Bool) (seen : D → Option Sides) (images
 
   -- the same of the place where a core was found
 
+  pub does_noted : (p q : Place D) (c d : DurableCore D) (event : Event) (outcome : Outcome) (note : Bytes) → q ≡ p → q ≡ Inside c → is_retire event ≡ false → Step (hall_of c) event outcome (hall_of d) → HasWritten c d event outcome
+      → (is_log_fault outcome ≡ true → Rose (faults (disk_of c)) (faults (disk_of d))) → faults (disk_of c) ≤ faults (disk_of d) → crashes (disk_of d) ≡ crashes (disk_of c)
+      → ((j : Journal) → KeepsLogOf crashes seen images c j → GoesOn crashes seen images moment left_since c d event outcome j)
+      → MayNote event d note → Fed c d note → Acted p (Inside d) (event, outcome) note
+  does_noted p q c d event outcome note same is stays step writes cause later told log may fed =
+      subst (λ (x : Place D). Acted x (Inside d) (event, outcome) note) (sym is ∙ same) (acted_inside c d event outcome note stays step writes cause later told log may fed)
+
   pub does_inside : (p q : Place D) (c d : DurableCore D) (event : Event) (outcome : Outcome) → q ≡ p → q ≡ Inside c → is_retire event ≡ false → Step (hall_of c) event outcome (hall_of d) → HasWritten c d event outcome
       → (is_log_fault outcome ≡ true → Rose (faults (disk_of c)) (faults (disk_of d))) → faults (disk_of c) ≤ faults (disk_of d) → crashes (disk_of d) ≡ crashes (disk_of c)
       → ((j : Journal) → KeepsLogOf crashes seen images c j → GoesOn crashes seen images moment left_since c d event outcome j)
-      → Acted p (Inside d) (event, outcome)
-  does_inside p q c d event outcome same is stays step writes cause later told log =
-      subst (λ (x : Place D). Acted x (Inside d) (event, outcome)) (sym is ∙ same) (acted_inside c d event outcome stays step writes cause later told log)
+      → Fed c d [] → Acted p (Inside d) (event, outcome) []
+  does_inside p q c d event outcome same is stays step writes cause later told log fed = does_noted p q c d event outcome [] same is stays step writes cause later told log (inl refl) fed
 
   pub does_beside : (p q : Place D) (c d : DurableCore D) (event : Event) (outcome : Outcome) → q ≡ p → q ≡ Inside c → is_retire event ≡ false → Step (hall_of c) event outcome (hall_of d) → HasWritten c d event outcome → is_log_fault outcome ≡ false → disk_of d ≡ disk_of c
       → ((j : Journal) → KeepsLogOf crashes seen images c j → GoesOn crashes seen images moment left_since c d event outcome j)
-      → Acted p (Inside d) (event, outcome)
-  does_beside p q c d event outcome same is stays step writes fine alone log =
-      subst (λ (x : Place D). Acted x (Inside d) (event, outcome)) (sym is ∙ same) (acted_beside c d event outcome stays step writes fine alone log)
+      → Fed c d [] → Acted p (Inside d) (event, outcome) []
+  does_beside p q c d event outcome same is stays step writes fine alone log fed =
+      subst (λ (x : Place D). Acted x (Inside d) (event, outcome) []) (sym is ∙ same) (acted_beside c d event outcome stays step writes fine alone log fed)
 
-  pub does_nothing : (p q left : Place D) (event : Event) → q ≡ p → q ≡ left → has_left left ≡ true → (hall_in left).stopped ≡ true → ((disk : D) → TellsNow images moment left_since disk) → Acted p q (event, when_stopped event)
+  pub does_nothing : (p q left : Place D) (event : Event) → q ≡ p → q ≡ left → has_left left ≡ true → (hall_in left).stopped ≡ true → ((disk : D) → TellsNow images moment left_since disk) → Acted p q (event, when_stopped event) []
   does_nothing p q left event same is out stops tells =
-      subst (λ (x : Place D). Acted x q (event, when_stopped event)) (sym is ∙ same) (subst (λ (x : Place D). Acted left x (event, when_stopped event)) (sym is) (acted_outside left event out stops tells))
+      subst (λ (x : Place D). Acted x q (event, when_stopped event) []) (sym is ∙ same) (subst (λ (x : Place D). Acted left x (event, when_stopped event) []) (sym is) (acted_outside left event out stops tells))
 
   -- and of the halls there
   pub hall_inside : (p q : Place D) (c : DurableCore D) → q ≡ p → q ≡ Inside c → hall_of c ≡ hall_in p
@@ -121,10 +141,12 @@ module _ {D : Type 0} (crashes : D → Bool) (seen : D → Option Sides) (images
       → (hall_of d).stopped ≡ true → Step (hall_of c) Retire outcome (hall_of d)
       → (is_log_fault outcome ≡ true → Rose (faults (disk_of c)) (faults (disk_of d))) → faults (disk_of c) ≤ faults (disk_of d) → crashes (disk_of d) ≡ crashes (disk_of c)
       → ((j : Journal) → KeepsLogOf crashes seen images c j → GoesOn crashes seen images moment left_since c d Retire outcome j)
-      → Acted p q (Retire, outcome)
+      → Acted p q (Retire, outcome) []
   retired p q c d outcome is out hall same carried kept_so keeps stops step cause later told log =
       let there : hall_of d ≡ hall_in q = sym (hall ∙ same_hall (hall_of d) true stops) in
-      subst (λ (x : Place D). Acted x q (Retire, outcome)) (sym is) (record {
+      subst (λ (x : Place D). Acted x q (Retire, outcome) []) (sym is) (record {
+        noted = inl refl;
+        fed = λ goes. absurd (true≢false (sym (ap (λ (h : Hall). h.stopped) hall) ∙ goes));
         step = subst (λ (h : Hall). Step (hall_of c) Retire outcome h) there step;
         later = subst (λ (x : D). faults (disk_of c) ≤ faults x) (sym same) later;
         cause = λ failed. subst (λ (x : D). Rose (faults (disk_of c)) (faults x)) (sym same) (cause failed);

@@ -2,6 +2,7 @@
 use Rattle.std.proofs.Common.{◌≡◌, ℕ, zero, suc, ◌+◌, Bool, false, List, [], ◌∷◌, ◌++◌, length, map, take, drop, refl, sym, ap, ◌∙◌, subst}
 use Rattle.std.specs.Prelude.{Option, Some}
 use Rattle.std.specs.List.{range_with_len}
+use Rattle.byte_text.specs.Names.{Bytes}
 use Rattle.outside.specs.Sides.{Sides}
 use Rattle.turn_lock.specs.declared.seat.Known.{Known}
 use Rattle.turn_lock.specs.Seats.{Turn, OwnsKept, OwnPlaces}
@@ -20,7 +21,7 @@ use Rattle.log_record.specs.Journals.{is_retire}
 use Rattle.durable_core.specs.Histories.{Writing}
 use Rattle.shared_hall.specs.Cores.{hall_in, tells, StandsIn}
 use Rattle.shared_hall.specs.Times.{Time, entries_at, is_retirement}
-use Rattle.shared_hall.specs.Turns.{acts, Gives}
+use Rattle.shared_hall.specs.Turns.{acts, note_by, Gives}
 use Rattle.shared_hall.specs.declared.places.Begun.{Begun}
 use Rattle.shared_hall.specs.declared.places.Place.{Place}
 use Rattle.shared_hall.specs.declared.works.HallWork.{HallWork}
@@ -33,10 +34,10 @@ same_places : (at n : ℕ) → range_with_len at n ≡ places_from at n
 same_places at zero = refl
 same_places at (suc n) = ap (λ (l : List ℕ). at ∷ l) (same_places (at + 1) n)
 
-pub same_acts : (begun ended : Time) (acts : List Act) → map act_of (entries_at begun ended acts) ≡ acts
-same_acts begun ended [] = refl
-same_acts begun ended (a ∷ []) = refl
-same_acts begun ended (a ∷ b ∷ acts) = ap (λ (l : List Act). a ∷ l) (same_acts begun ended (b ∷ acts))
+pub same_acts : (begun ended : Time) (note : Bytes) (acts : List Act) → map act_of (entries_at begun ended note acts) ≡ acts
+same_acts begun ended note [] = refl
+same_acts begun ended note (a ∷ []) = refl
+same_acts begun ended note (a ∷ b ∷ acts) = ap (λ (l : List Act). a ∷ l) (same_acts begun ended note (b ∷ acts))
 
 -- entries that a turn made of these acts, behind a history that they lead on legally
 pub adds : {D : Type 0} (k l : Known (Begun D) Entry) (b : Begun D) (log made : List Entry) (acts : List Act) → k.opening ≡ Some b → Turn k l log made → map act_of made ≡ acts → IsLegal b.opening (log ++ made) → AddsCalls acts (shown k) (shown l)
@@ -62,9 +63,9 @@ module _ {D : Type 0} (crashes : D → Bool) (seen : D → Option Sides) (images
 
   -- a turn did the work, and its acts are the seat's own
   pub is_done : StepsLeadToOne → (told : Bool) (w : HallWork) (out : HallAnswer D) (k l : Known (Begun D) Entry) (b : Begun D) (log made : List Entry) (g h' : Place D) → told ≡ tells crashes seen handed → OwnPlaces k → OwnsKept is_retirement l → Gives crashes seen images moment left_since faults w g out h'
-      → k.opening ≡ Some b → Turn k l log made → map act_of made ≡ acts w out → In told g b.opening log → In told h' b.opening (log ++ made) → Done w out (shown k) (shown l)
+      → k.opening ≡ Some b → Turn k l log made → map act_of made ≡ acts w out → ((begun : Time) × (ended : Time) × (made ≡ entries_at begun ended (note_by w out) (acts w out))) → In told g b.opening log → In told h' b.opening (log ++ made) → Done w out (shown k) (shown l)
   unfolding adds
-  is_done one told w out k l b log made g h' same own keeps gives was t are p s =
+  is_done one told w out k l b log made g h' same own keeps gives was t are noted p s =
       let opens : opening_in l.opening ≡ b.opening = ap opening_in (t.opening ∙ was) in
       let back = λ (es : List Entry) (named : List ℕ) (changed : NamesChangedBy b.opening log es named).
       subst (λ (z : Opening). NamesChangedBy z (k.seen ++ t.begins.0) es named) (sym opens) (subst (λ (z : List Entry). NamesChangedBy b.opening z es named) (sym t.begins.1) changed) in
@@ -73,6 +74,7 @@ module _ {D : Type 0} (crashes : D → Bool) (seen : D → Option Sides) (images
         after = h';
         gives = gives;
         adds = adds k l b log made (acts w out) was t are (record { opening = s.sound; hall = hall_in h'; reached = s.reached });
+        noted = noted;
         names = λ named names. back made named (names_changed one b.opening log made (map act_of made) (hall_in g) (hall_in h') named refl p.reached (steps_between one b.opening log made (hall_in g) (hall_in h') p.reached s.reached) names);
         stood = subst (λ (b : Bool). In b g (opening_in l.opening) (k.seen ++ t.begins.0)) same
             (subst (λ (z : Opening). In told g z (k.seen ++ t.begins.0)) (sym opens) (subst (λ (z : List Entry). In told g b.opening z) (sym t.begins.1) p));
@@ -117,7 +119,7 @@ calls_go_on n m xs served end = none_behind (map (call_act n m called.Ok) (take 
     all [] = tt
     all (y ∷ ys) = (refl, all ys)
 
-pub none_kept : (begun ended : Time) (acts : List Act) → NoRetire acts → NoneKept is_retirement (entries_at begun ended acts)
-none_kept begun ended [] none = tt
-none_kept begun ended (a ∷ []) none = (none.0, tt)
-none_kept begun ended (a ∷ b ∷ acts) none = (none.0, none_kept begun ended (b ∷ acts) none.1)
+pub none_kept : (begun ended : Time) (note : Bytes) (acts : List Act) → NoRetire acts → NoneKept is_retirement (entries_at begun ended note acts)
+none_kept begun ended note [] none = tt
+none_kept begun ended note (a ∷ []) none = (none.0, tt)
+none_kept begun ended note (a ∷ b ∷ acts) none = (none.0, none_kept begun ended note (b ∷ acts) none.1)

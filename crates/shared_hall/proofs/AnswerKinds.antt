@@ -1,5 +1,5 @@
 -- Each work has an answer of its own kind, which tells what was done.
-use Rattle.std.proofs.Common.{◌≡◌, ℕ, List, [], ◌∷◌, length, false, refl, sym, ap, subst, true≢false}
+use Rattle.std.proofs.Common.{◌≡◌, ◌∙◌, ℕ, List, [], ◌∷◌, ◌++◌, length, false, refl, sym, ap, subst, true≢false}
 use Rattle.std.specs.Prelude.{Result, Option, Bool}
 use Rattle.world_data.specs.Frames.{FrameList}
 use Rattle.world_data.specs.Limits.{take_frames}
@@ -11,6 +11,7 @@ use Rattle.world_model.specs.declared.events.Answers.{Answers}
 use Rattle.world_model.specs.declared.events.Asked.{Asked}
 use Rattle.world_model.specs.declared.events.CallOutcome.{CallOutcome}
 use Rattle.world_model.specs.declared.events.EnterFault.{EnterFault}
+use Rattle.world_model.specs.declared.events.Entry.{Entry}
 use Rattle.world_model.specs.declared.events.LogState.{LogState}
 use Rattle.world_model.specs.declared.events.Taken.{Taken}
 use Rattle.world_model.specs.declared.events.Event.TheVariants as event
@@ -32,8 +33,10 @@ use Rattle.shared_hall.specs.declared.works.HallWork.TheVariants as work
 use Rattle.shared_hall.specs.declared.places.Place.{Place}
 use Rattle.durable_core.specs.Histories.{Writing}
 use Rattle.shared_hall.specs.Cores.{hall_in, tells, writing_in}
-use Rattle.shared_hall.specs.Turns.{acts, retires, Gives}
+use Rattle.shared_hall.specs.Turns.{acts, note_by, retires, Gives}
+use Rattle.shared_hall.specs.Fed.{EndsNoted, note_in}
 use Rattle.shared_hall.specs.Seats.{AnswersAsk, IsDone}
+use Rattle.shared_hall.specs.Times.{entries_at, noted_at}
 use Rattle.shared_hall.proofs.Adding.{NoRetire, calls_go_on, adds_acts, adds_named}
 
 module _ {D : Type 0} (crashes : D → Bool) (seen : D → Option Sides) (images : D → Sides → Type 0) (moment : D → ℕ) (left_since : D → ℕ → Sides → Type 0) (faults : D → ℕ) (handed : D) (first : Writing) where
@@ -178,21 +181,37 @@ module _ {D : Type 0} (crashes : D → Bool) (seen : D → Option Sides) (images
   parted_gives : (w : AskingPart) (out : HallAnswer D) (old new : Knows) (a : PartAnswer) (into : PartBytes) → out ≡ answer.Parted a into → (d : Done (work.Part w) out old new) → GivesIn (work.Part w) d.before (answer.Parted a into) d.after
   parted_gives w out old new a into is d = subst (λ (z : HallAnswer D). GivesIn (work.Part w) d.before z d.after) is d.gives
 
+  -- and what the entry tells of it
+  parted_noted : (w : AskingPart) (out : HallAnswer D) (old new : Knows) (a : PartAnswer) (into : PartBytes) → out ≡ answer.Parted a into → Done (work.Part w) out old new → EndsNoted new.seen (note_in w.ask a into)
+  parted_noted w out old new a into is d =
+      let at = d.noted in
+      let are = subst (λ (z : HallAnswer D). d.adds.entries ≡ entries_at at.0 at.1 (note_by (work.Part w) z) (acts (work.Part w) z)) is at.2 in
+      (old.seen ++ d.adds.between, noted_at at.1 (event.Rewrite, outcome.Answered (called_of a)) (note_in w.ask a into), d.adds.seen ∙ ap (λ (l : List Entry). (old.seen ++ d.adds.between) ++ l) are, refl)
+
   pub parted_answers : (w : AskingPart) (out : HallAnswer D) (old new : Knows) (a : PartAnswer) (into : PartBytes) → out ≡ answer.Parted a into → Done (work.Part w) out old new
       → IfGiven a (λ part. AnswersAsk (tells crashes seen handed) first new w.ask part (bytes_in into))
-  parted_answers w out old new a into is d = by a (parted_gives w out old new a into is d)
+  parted_answers w out old new a into is d = by a (parted_gives w out old new a into is d) (parted_noted w out old new a into is d)
     where
-      by : (a : PartAnswer) → GivesIn (work.Part w) d.before (answer.Parted a into) d.after → IfGiven a (λ part. AnswersAsk (tells crashes seen handed) first new w.ask part (bytes_in into))
-      by (parts.Given part) gives = record {
+      by : (a : PartAnswer) → GivesIn (work.Part w) d.before (answer.Parted a into) d.after → EndsNoted new.seen (note_in w.ask a into)
+          → IfGiven a (λ part. AnswersAsk (tells crashes seen handed) first new w.ask part (bytes_in into))
+      by (parts.Given part) gives ends = record {
         generation = (writing_in d.after).generation;
         leaves = record { hall = hall_in d.after; end = writing_in d.after; writes = d.stands.writes; is = refl };
         is = λ told h reached.
             let k = d.stood.kept told in
-            subst (λ (x : Hall). IsPartOfWorld w.ask (writing_in d.after).generation x.world part (bytes_in into)) (sym (d.one h reached)) (gives k.1.0 k.1.1);
+            let x = gives k.1.0 k.1.1 in
+            subst (λ (x : Hall). IsPartOfWorld w.ask (writing_in d.after).generation x.world part (bytes_in into)) (sym (d.one h reached))
+                (record { batches = x.0; whole = x.1.makes.whole; world_is = x.1.makes.world_is; is = x.1.is });
+        noted = ends;
+        numbers = λ told.
+            let k = d.stood.kept told in
+            let x = gives k.1.0 k.1.1 in
+            (x.1.asked, x.1.given);
+        feeds = λ told. let f = d.stands.fed told in record { logs = f.0; whole = f.1; fed = f.2 };
       }
-      by parts.LogFault gives = tt
-      by parts.Stopped gives = tt
-      by parts.Memory gives = tt
+      by parts.LogFault gives ends = tt
+      by parts.Stopped gives ends = tt
+      by parts.Memory gives ends = tt
 
   -- of a work that was done, the answer's own kind
 

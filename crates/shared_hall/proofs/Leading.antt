@@ -1,6 +1,7 @@
 -- What leads from one state of a core to another, act by act.
 use Rattle.std.proofs.Common.{◌≡◌, ℕ, Bool, false, List, [], ◌∷◌, ◌++◌, map, refl, sym, ◌∙◌, subst, inl, inr}
 use Rattle.std.specs.Prelude.{◌||◌}
+use Rattle.byte_text.specs.Names.{Bytes}
 use Rattle.outside.specs.Sides.{Sides}
 use Rattle.world_model.specs.Halls.{Hall, NamesChanged}
 use Rattle.world_model.specs.Histories.{Step, Leads, Reaches, opening_hall, is_log_fault, gives_disk}
@@ -10,33 +11,34 @@ use Rattle.world_model.specs.declared.events.Entry.{Entry}
 use Rattle.world_model.specs.declared.events.Opening.{Opening}
 use Rattle.log_record.specs.Journals.{Journal, is_retire}
 use Rattle.durable_core.specs.Histories.{Writing}
+use Rattle.durable_core.specs.Written.{Sided}
 use Rattle.shared_hall.specs.Standing.{IsAct, FrontBy, TurnBy}
 
 module _ {S D : Type 0} (hall : S → Hall) (writing : S → Writing) (disk : S → D) (is_out : S → Bool) (is_log : S → Journal → Type 0)
-    (crashes : D → Bool) (images : D → Sides → Type 0) (moment : D → ℕ) (left_since : D → ℕ → Sides → Type 0) (faults : D → ℕ) where
-  abbrev Acted : S → S → Act → Type 0
-  Acted = IsAct hall writing disk is_out is_log crashes images moment left_since faults
+    (is_sided : S → Sided → Type 0) (crashes : D → Bool) (images : D → Sides → Type 0) (moment : D → ℕ) (left_since : D → ℕ → Sides → Type 0) (faults : D → ℕ) where
+  abbrev Acted : S → S → Act → Bytes → Type 0
+  Acted = IsAct hall writing disk is_out is_log is_sided crashes images moment left_since faults
 
   abbrev Fronted : List Act → S → S → Type 0
-  Fronted = FrontBy hall writing disk is_out is_log crashes images moment left_since faults
+  Fronted = FrontBy hall writing disk is_out is_log is_sided crashes images moment left_since faults
 
-  abbrev Turned : List Act → D → S → S → Type 0
-  Turned = TurnBy hall writing disk is_out is_log crashes images moment left_since faults
+  abbrev Turned : List Act → Bytes → D → S → S → Type 0
+  Turned = TurnBy hall writing disk is_out is_log is_sided crashes images moment left_since faults
 
   -- one act more in front
-  pub front_more : (acts : List Act) (a : Act) (old mid new : S) → Fronted acts old mid → Acted mid new a → is_log_fault a.1 ≡ false → is_retire a.0 ≡ false → Fronted (acts ++ a ∷ []) old new
+  pub front_more : (acts : List Act) (a : Act) (old mid new : S) → Fronted acts old mid → Acted mid new a [] → is_log_fault a.1 ≡ false → is_retire a.0 ≡ false → Fronted (acts ++ a ∷ []) old new
   front_more [] a old mid new made act fine stays = subst (λ (s : S). Fronted (a ∷ []) s new) made (new, act, fine, stays, refl)
   front_more (b ∷ acts) a old mid new made act fine stays = (made.0, made.1, made.2, made.3, front_more acts a made.0 mid new made.4 act fine stays)
 
   -- one act behind others
-  pub turn_more : (acts : List Act) (a : Act) (begun : D) (old mid new : S) → Fronted acts old mid → begun ≡ disk mid → Acted mid new a → Turned (acts ++ a ∷ []) begun old new
+  pub turn_more : (acts : List Act) (a : Act) (begun : D) (old mid new : S) → Fronted acts old mid → begun ≡ disk mid → Acted mid new a [] → Turned (acts ++ a ∷ []) [] begun old new
   turn_more acts a begun old mid new made began act = inr (record { front = acts; last = a; are = refl; mid = mid; made = made; began = began; act = act })
 
   -- or alone
-  pub one_act : (a : Act) (begun : D) (old new : S) → begun ≡ disk old → Acted old new a → Turned (a ∷ []) begun old new
-  one_act a begun old new began act = inr (record { front = []; last = a; are = refl; mid = old; made = refl; began = began; act = act })
+  pub one_act : (a : Act) (note : Bytes) (begun : D) (old new : S) → begun ≡ disk old → Acted old new a note → Turned (a ∷ []) note begun old new
+  one_act a note begun old new began act = inr (record { front = []; last = a; are = refl; mid = old; made = refl; began = began; act = act })
 
-  pub no_act : (begun : D) (old new : S) → new ≡ old → Turned [] begun old new
+  pub no_act : (begun : D) (old new : S) → new ≡ old → Turned [] [] begun old new
   no_act begun old new same = inl (refl, same)
 
 -- these acts lead from a hall to another

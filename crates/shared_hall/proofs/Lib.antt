@@ -2,6 +2,9 @@ mod Acting
 mod Adding
 mod AnswerKinds
 mod Calling
+mod Feeding
+mod Following
+mod Growing
 pub mod Crosses
 mod Joining
 mod Leading

@@ -1,5 +1,5 @@
 -- A hall that has no history yet.
-use Rattle.std.proofs.Common.{◌≡◌, ◌≤◌, ℕ, zero, suc, Bool, true, false, [], take, Option, refl, sym, ap, ◌∙◌, subst, arith, true≢false}
+use Rattle.std.proofs.Common.{◌≡◌, ◌≤◌, ℕ, zero, suc, Bool, true, false, [], take, inl, Option, refl, sym, ap, ◌∙◌, subst, arith, true≢false}
 use Rattle.std.specs.Prelude.{if◌then◌else◌}
 use Rattle.outside.specs.Sides.{Sides}
 use Rattle.turn_lock.specs.Seats.{first_known}
@@ -13,14 +13,15 @@ use Rattle.log_record.specs.Journals.{Journal}
 use Rattle.log_record.specs.Laws.{Stood}
 use Rattle.log_record.specs.Safety.{Safe}
 use Rattle.durable_core.specs.Kept.{settled_log}
-use Rattle.durable_core.specs.Logged.{hall_of, disk_of}
+use Rattle.durable_core.specs.Logged.{hall_of, disk_of, generation_of}
 use Rattle.durable_core.specs.declared.cores.DurableCore.{DurableCore}
-use Rattle.shared_hall.specs.Cores.{core_in, hall_in, writing_in, disk_in, tells, begun, opening_with, StandsFor, StandsIn, IsOpenedOn}
+use Rattle.shared_hall.specs.Cores.{core_in, hall_in, writing_in, disk_in, tells, SidedIn, begun, opening_with, StandsFor, StandsIn, IsOpenedOn}
 use Rattle.shared_hall.specs.Seats.{shown, first_knows}
 use Rattle.shared_hall.specs.declared.places.Begun.{Begun}
 use Rattle.shared_hall.specs.declared.places.HallCore.{HallCore}
 use Rattle.shared_hall.specs.declared.places.Place.{Place}
 use Rattle.shared_hall.specs.declared.places.Place.TheVariants.{Inside}
+use Rattle.shared_hall.proofs.Feeding.{last_still}
 
 -- a disk that is safe since an earlier moment of an opening is so since a later one
 module _ {D : Type 0} (images : D → Sides → Type 0) (moment : D → ℕ) (left_since : D → ℕ → Sides → Type 0) (disk : D) (o p : Opening)
@@ -89,6 +90,14 @@ module _ {D : Type 0} (crashes : D → Bool) (seen : D → Option Sides) (images
               opens_later images moment left_since (disk_of c) o (opening_with crashes seen images moment left_since faults h.handed.value (hall_of c) (disk_of c)) (from_earlier (disk_of c))
                   (sym found.1) (sym found.2) (omega (arith, found.3.past, now)) (now_within (tells crashes seen h.handed.value) (disk_of c)) (hall_of c) (settled_log (hall_of c).world) found.3,
             ),
+          );
+      fed = λ told.
+          let k = (opened.kept told (ap (λ (g : Hall). g.stopped) opened.hall)).kept in
+          let n = generation_of c in (
+            λ m. [],
+            λ m. tt,
+            tt,
+            λ goes. last_still (λ m. []) n n [] k.batches ([], refl) (λ m later. refl) (inl (refl, (k.batches, refl))) (record { batches = k.batches; copied = k.copied }) (SidedIn crashes seen images (Inside c)) refl k.keeps,
           );
     });
   }

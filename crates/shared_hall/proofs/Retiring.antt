@@ -16,6 +16,7 @@ use Rattle.log_record.specs.Safety.{Safe, count_after}
 use Rattle.durable_core.specs.Histories.{LeavesGeneration, Writing}
 use Rattle.journal.specs.Openings.{opened_generation}
 use Rattle.shared_hall.specs.Cores.{hall_in, has_left, tells, writing_in}
+use Rattle.shared_hall.specs.Fed.{FeedsLogs}
 use Rattle.shared_hall.specs.Seats.{IsDone}
 use Rattle.shared_hall.specs.Times.{is_retirement}
 use Rattle.shared_hall.specs.Turns.{acts, retire_outcome, Gives, GivesOut}
@@ -62,6 +63,9 @@ module _ {D : Type 0} (crashes : D → Bool) (seen : D → Option Sides) (images
       by (Some p) g = λ ok h reached image at.
           let k = d.stood.kept told in
           subst (λ (x : Hall). Recovers image x.world) (sym (d.one h reached)) (g.3 k.1.0 k.1.1 k.0 ok image at)
+
+  pub given_feeds : tells crashes seen handed ≡ true → FeedsLogs first new
+  given_feeds told = let f = d.stands.fed told in record { logs = f.0; whole = f.1; fed = f.2 }
 
   pub given_generation : tells crashes seen handed ≡ true → IfSome given (λ p. p.1 ≡ called.Ok → (s : Sides) → seen p.0 ≡ Some s → LeavesGeneration new.opening first new.seen (opened_generation s))
   given_generation told = by given gives

@@ -4,10 +4,11 @@ use Rattle.std.specs.Prelude.{◌-◌, ◌^◌, nat_le}
 use Rattle.std.proofs.lemmas.Bool.Decides.{nat_tests}
 use Rattle.std.specs.List.{list_any}
 use Rattle.std.proofs.lemmas.List.Folds.{list_any-append}
+use Rattle.byte_text.specs.Names.{Bytes}
 use Rattle.outside.specs.Causes.{Rose, most_count}
 use Rattle.outside.specs.Sides.{Sides}
 use Rattle.world_model.specs.Halls.{Hall}
-use Rattle.world_model.specs.Histories.{gives_disk, opening_hall}
+use Rattle.world_model.specs.Histories.{gives_disk, is_rewrite, opening_hall}
 use Rattle.world_model.specs.Seats.{Act, act_of}
 use Rattle.world_model.specs.declared.events.Event.{Event}
 use Rattle.world_model.specs.declared.events.Event.TheVariants.{Enter, Call, Take, Tick, Close, Remove, Rewrite, Retire}
@@ -19,8 +20,11 @@ use Rattle.log_record.specs.Safety.{moment_after, count_after, out_after, ComesN
 use Rattle.log_record.specs.Acknowledged.{moment_last, count_last}
 use Rattle.log_record.specs.LeadingLaws.{leads_on}
 use Rattle.durable_core.specs.Histories.{Writing, Writes}
-use Rattle.shared_hall.specs.Times.{Time, time_of, entry_at, entries_at, is_retirement}
-use Rattle.shared_hall.specs.Standing.{IsAct, FrontBy, TurnBy, Stands}
+use Rattle.durable_core.specs.Written.{Sided}
+use Rattle.shared_hall.specs.Fed.{AreAllWhole, AreFed, IsNoted}
+use Rattle.shared_hall.specs.Times.{Time, time_of, entry_at, entries_at, noted_at, is_retirement}
+use Rattle.shared_hall.specs.Standing.{IsAct, IsLast, FeedsOn, FrontBy, TurnBy, Stands}
+use Rattle.shared_hall.proofs.Feeding.{fed_last, fed_more, fed_raised, last_more, last_still, went_on, whole_more, with_log}
 use Rattle.shared_hall.proofs.Raising.{ArePlain, Raises, raised, raise_reaches, raise_stood, raised_past}
 use Rattle.shared_hall.proofs.Writes.{acts_last, raised_acts, writes_last}
 
@@ -106,21 +110,21 @@ raised_are : (t : Time) (es : List Entry) → map (raised t) es ≡ map (entry_a
 raised_are t [] = refl
 raised_are t (e ∷ es) = ap (λ (l : List Entry). raised t e ∷ l) (raised_are t es)
 
-pub entries_end : (begun ended : Time) (front : List Act) (last : Act) → entries_at begun ended (front ++ last ∷ []) ≡ map (entry_at begun) front ++ entry_at ended last ∷ []
-entries_end begun ended [] last = refl
-entries_end begun ended (a ∷ []) last = refl
-entries_end begun ended (a ∷ b ∷ front) last = ap (λ (l : List Entry). entry_at begun a ∷ l) (entries_end begun ended (b ∷ front) last)
+pub entries_end : (begun ended : Time) (note : Bytes) (front : List Act) (last : Act) → entries_at begun ended note (front ++ last ∷ []) ≡ map (entry_at begun) front ++ noted_at ended last note ∷ []
+entries_end begun ended note [] last = refl
+entries_end begun ended note (a ∷ []) last = refl
+entries_end begun ended note (a ∷ b ∷ front) last = ap (λ (l : List Entry). entry_at begun a ∷ l) (entries_end begun ended note (b ∷ front) last)
 
 module _ {S D : Type 0} (hall : S → Hall) (writing : S → Writing) (disk : S → D) (is_out : S → Bool) (is_log : S → Journal → Type 0)
-    (crashes : D → Bool) (images : D → Sides → Type 0) (moment : D → ℕ) (left_since : D → ℕ → Sides → Type 0) (faults : D → ℕ) (first : Writing) where
-  abbrev Acted : S → S → Act → Type 0
-  Acted = IsAct hall writing disk is_out is_log crashes images moment left_since faults
+    (is_sided : S → Sided → Type 0) (crashes : D → Bool) (images : D → Sides → Type 0) (moment : D → ℕ) (left_since : D → ℕ → Sides → Type 0) (faults : D → ℕ) (first : Writing) where
+  abbrev Acted : S → S → Act → Bytes → Type 0
+  Acted = IsAct hall writing disk is_out is_log is_sided crashes images moment left_since faults
 
   abbrev Fronted : List Act → S → S → Type 0
-  Fronted = FrontBy hall writing disk is_out is_log crashes images moment left_since faults
+  Fronted = FrontBy hall writing disk is_out is_log is_sided crashes images moment left_since faults
 
   abbrev StandsAt : Bool → S → Opening → List Entry → Type 0
-  StandsAt told = Stands hall writing disk is_out is_log crashes images moment left_since faults told first
+  StandsAt told = Stands hall writing disk is_out is_log is_sided crashes images moment left_since faults told first
 
   abbrev time : Bool → S → Time
   time told s = time_of moment faults told (disk s)
@@ -128,44 +132,87 @@ module _ {S D : Type 0} (hall : S → Hall) (writing : S → Writing) (disk : S 
   abbrev Kept : S → Opening → List Entry → Type 0
   Kept s o log = (crashes (disk s) ≡ true) × ((j : Journal) × is_log s j × Stood images moment left_since (disk s) o log (hall s) j)
 
-  moment_later : (told : Bool) (s t : S) (o : Opening) (log : List Entry) (a : Act) → StandsAt told s o log → Acted s t a → (time told s).moment ≤ (time told t).moment
-  moment_later false s t o log a stands act = omega arith
-  moment_later true s t o log a stands act = let k = stands.kept refl in (act.log k.1.0 k.1.1 k.0).2
+  moment_later : (told : Bool) (s t : S) (o : Opening) (log : List Entry) (a : Act) (note : Bytes) → StandsAt told s o log → Acted s t a note → (time told s).moment ≤ (time told t).moment
+  moment_later false s t o log a note stands act = omega arith
+  moment_later true s t o log a note stands act = let k = stands.kept refl in (act.log k.1.0 k.1.1 k.0).2
 
   is_still : (told : Bool) (s : S) (o : Opening) (log : List Entry) → StandsAt told s o log → out_after false log ≡ true → is_out s ≡ true
   is_still told s o log stands out = stands.out ∙ out_retired false log out
 
-  follows : (told : Bool) (s t : S) (o : Opening) (log : List Entry) (a : Act) → StandsAt told s o log → Acted s t a → ComesNext o log (entry_at (time told t) a)
-  follows told s t o log a stands act = record {
-    later = omega (arith, stands.past, moment_later told s t o log a stands act);
+  follows : (told : Bool) (s t : S) (o : Opening) (log : List Entry) (a : Act) (note : Bytes) → StandsAt told s o log → Acted s t a note → ComesNext o log (noted_at (time told t) a note)
+  follows told s t o log a note stands act = record {
+    later = omega (arith, stands.past, moment_later told s t o log a note stands act);
     not_fallen = omega (arith, stands.counted, act.later);
     moment_stays = λ out. let is = is_still told s o log stands out in ap (λ (d : D). (time_of moment faults told d).moment) (act.stays is) ∙ sym (stands.still is).0;
     count_stays = λ out. let is = is_still told s o log stands out in ap (λ (d : D). (time_of moment faults told d).count) (act.stays is) ∙ sym (stands.still is).1;
     cause = λ failed. rose_counted (count_after o.count log) (faults (disk s)) (faults (disk t)) stands.counted act.later (act.cause failed);
-    note = λ _. refl;
+    note = λ other. by other act.noted;
   }
+    where
+      by : is_rewrite a.0 ≡ false → (note ≡ []) ⊎ ((is_rewrite a.0 ≡ true) × ((hall t).stopped ≡ false)) → note ≡ []
+      by other (inl none) = none
+      by other (inr is) = absurd (true≢false (sym is.0 ∙ other))
 
-  kept_more : (told : Bool) (s t : S) (o : Opening) (log : List Entry) (a : Act) → StandsAt told s o log → Acted s t a → told ≡ true → Kept t o (log ++ entry_at (time told t) a ∷ [])
-  kept_more false s t o log a stands act is = absurd (true≢false (sym is))
-  kept_more true s t o log a stands act is =
+  kept_more : (told : Bool) (s t : S) (o : Opening) (log : List Entry) (a : Act) (note : Bytes) → StandsAt told s o log → Acted s t a note → told ≡ true → Kept t o (log ++ noted_at (time told t) a note ∷ [])
+  kept_more false s t o log a note stands act is = absurd (true≢false (sym is))
+  kept_more true s t o log a note stands act is =
       let k = stands.kept refl in
       let next = act.log k.1.0 k.1.1 k.0 in
-      (act.told ∙ k.0, (next.0, next.1, next.3 o log (entry_at (time true t) a) k.1.2 refl refl refl (follows true s t o log a stands act)))
+      (act.told ∙ k.0, (next.0, next.1, next.3 o log (noted_at (time true t) a note) k.1.2 refl refl refl (follows true s t o log a note stands act)))
+
+  abbrev FedAt : S → Opening → List Entry → Type 0
+  FedAt s o log = (logs : ℕ → List Bytes) × AreAllWhole logs × AreFed logs (opening_hall o.world o.logged) first [] log × ((hall s).stopped ≡ false → IsLast logs (writing s).generation (is_sided s))
+
+  fed_next : (told : Bool) (s t : S) (o : Opening) (log : List Entry) (a : Act) (note : Bytes) → StandsAt told s o log → Acted s t a note
+      → Writes (opening_hall o.world o.logged) first (map act_of log ++ a ∷ []) (hall t) (writing t) → told ≡ true → FedAt t o (log ++ noted_at (time told t) a note ∷ [])
+  fed_next told s t o log a note stands act writes is = by (hall t).stopped refl
+    where
+      none_noted : (hall t).stopped ≡ true → (note ≡ []) ⊎ ((is_rewrite a.0 ≡ true) × ((hall t).stopped ≡ false)) → note ≡ []
+      none_noted stops (inl none) = none
+      none_noted stops (inr goes) = absurd (true≢false (sym stops ∙ goes.1))
+
+      -- where the hall goes on
+      goes_on : (f : FedAt s o log) (l : IsLast f.0 (writing s).generation (is_sided s)) (x : FeedsOn hall writing is_sided s t note l.sides) → (note ≡ []) ⊎ IsNoted (writing t).generation (hall t).world x.sides.batches note
+          → FedAt t o (log ++ noted_at (time told t) a note ∷ [])
+      goes_on f l x (inl none) = (
+        f.0,
+        f.1,
+        fed_last f.0 (opening_hall o.world o.logged) first [] log (noted_at (time told t) a note) f.2 (inl none),
+        λ _. last_still f.0 (writing s).generation (writing t).generation l.sides.batches x.sides.batches l.here l.none x.grows x.sides (is_sided t) refl x.keeps,
+      )
+      goes_on f l x (inr noted) = (
+        with_log (writing t).generation x.sides.batches f.0,
+        whole_more f.0 (writing s).generation (writing t).generation l.sides.batches x.sides.batches l.here l.none x.grows f.1 noted.given.makes.whole,
+        fed_more f.0 (writing s).generation (writing t).generation l.sides.batches x.sides.batches l.here l.none x.grows (opening_hall o.world o.logged) first log (noted_at (time told t) a note) (hall t) (writing t) refl f.2 writes noted,
+        λ _. last_more f.0 (writing s).generation (writing t).generation l.sides.batches x.sides.batches l.here l.none x.grows x.sides (is_sided t) refl x.keeps,
+      )
+
+      by : (b : Bool) → (hall t).stopped ≡ b → FedAt t o (log ++ noted_at (time told t) a note ∷ [])
+      by true stops =
+          let f = stands.fed is in
+          (f.0, f.1, fed_last f.0 (opening_hall o.world o.logged) first [] log (noted_at (time told t) a note) f.2 (inl (none_noted stops act.noted)), λ going. absurd (true≢false (sym stops ∙ going)))
+      by false going =
+          let f = stands.fed is in
+          let k = stands.kept is in
+          let l = f.3 (went_on (hall s) (hall t) a.0 a.1 act.step going) in
+          let x = act.fed going k.1.0 k.1.1 l.sides l.keeps in
+          goes_on f l x x.noted
 
   -- one act more
-  pub one_more : (told : Bool) (s t : S) (o : Opening) (log : List Entry) (a : Act) → StandsAt told s o log → Acted s t a → StandsAt told t o (log ++ entry_at (time told t) a ∷ [])
-  one_more told s t o log a stands act =
-      let e = entry_at (time told t) a in
+  pub one_more : (told : Bool) (s t : S) (o : Opening) (log : List Entry) (a : Act) (note : Bytes) → StandsAt told s o log → Acted s t a note → StandsAt told t o (log ++ noted_at (time told t) a note ∷ [])
+  one_more told s t o log a note stands act =
+      let e = noted_at (time told t) a note in
+      let writes = writes_last (map act_of log) a (opening_hall o.world o.logged) (hall s) (hall t) first (writing s) (writing t) stands.writes act.step act.writes in
       record {
-        reached = leads_on (opening_hall o.world o.logged) (hall s) (hall t) o.moment o.count false log e stands.reached act.step (follows told s t o log a stands act);
-        writes = subst (λ (l : List Act). Writes (opening_hall o.world o.logged) first l (hall t) (writing t)) (sym (acts_last log e))
-            (writes_last (map act_of log) a (opening_hall o.world o.logged) (hall s) (hall t) first (writing s) (writing t) stands.writes act.step act.writes);
+        reached = leads_on (opening_hall o.world o.logged) (hall s) (hall t) o.moment o.count false log e stands.reached act.step (follows told s t o log a note stands act);
+        writes = subst (λ (l : List Act). Writes (opening_hall o.world o.logged) first l (hall t) (writing t)) (sym (acts_last log e)) writes;
         sound = stands.sound;
         past = omega (arith, moment_last o.moment log e);
         counted = omega (arith, count_last o.count log e);
         out = act.out ∙ ap (λ (b : Bool). b || is_retire a.0) stands.out ∙ sym (list_any-append is_retirement log (e ∷ []) ∙ ap (λ (b : Bool). list_any is_retirement log || b) (one (is_retire a.0)));
         still = λ _. (moment_last o.moment log e, count_last o.count log e);
-        kept = kept_more told s t o log a stands act;
+        kept = kept_more told s t o log a note stands act;
+        fed = fed_next told s t o log a note stands act writes;
       }
     where
       one : (b : Bool) → (b || false) ≡ b
@@ -188,7 +235,7 @@ module _ {S D : Type 0} (hall : S → Hall) (writing : S → Writing) (disk : S 
   }
   front_own told (a ∷ acts) s t o log stands made =
       let e = entry_at (time told made.0) a in
-      let rest = front_own told acts made.0 t o (log ++ e ∷ []) (one_more told s made.0 o log a stands made.1) made.4 in
+      let rest = front_own told acts made.0 t o (log ++ e ∷ []) (one_more told s made.0 o log a [] stands made.1) made.4 in
       record {
         entries = e ∷ rest.entries;
         are = ap (λ (l : List Act). a ∷ l) rest.are;
@@ -231,21 +278,22 @@ module _ {S D : Type 0} (hall : S → Hall) (writing : S → Writing) (disk : S 
           out = own.stands.out ∙ list_any-append is_retirement log es ∙ ap (λ (b : Bool). list_any is_retirement log || b) (sym (raised_retired u es)) ∙ sym (list_any-append is_retirement log (map (raised u) es));
           still = λ is. (ended_moment u log es o.moment (own.stands.still is).0, ended_count u log es o.count (own.stands.still is).1);
           kept = kept_raised told t o log es own.stands raises;
+          fed = λ is. let f = own.stands.fed is in (f.0, f.1, fed_raised u f.0 (opening_hall o.world o.logged) first [] log es f.2, f.3);
         })
 
     -- a turn
-    pub turn_stands : (told : Bool) (acts : List Act) (begun : D) (s t : S) (o : Opening) (log : List Entry) → StandsAt told s o log
-        → TurnBy hall writing disk is_out is_log crashes images moment left_since faults acts begun s t
-        → StandsAt told t o (log ++ entries_at (time_of moment faults told begun) (time told t) acts)
-    turn_stands told acts begun s t o log stands (inl none) =
-        subst (λ (l : List Act). StandsAt told t o (log ++ entries_at (time_of moment faults told begun) (time told t) l)) (sym none.0)
+    pub turn_stands : (told : Bool) (acts : List Act) (note : Bytes) (begun : D) (s t : S) (o : Opening) (log : List Entry) → StandsAt told s o log
+        → TurnBy hall writing disk is_out is_log is_sided crashes images moment left_since faults acts note begun s t
+        → StandsAt told t o (log ++ entries_at (time_of moment faults told begun) (time told t) note acts)
+    turn_stands told acts note begun s t o log stands (inl none) =
+        subst (λ (l : List Act). StandsAt told t o (log ++ entries_at (time_of moment faults told begun) (time told t) note l)) (sym none.0)
         (subst (λ (l : List Entry). StandsAt told t o l) (sym (append-nil log)) (subst (λ (x : S). StandsAt told x o log) (sym none.1) stands))
-    turn_stands told acts begun s t o log stands (inr e) =
+    turn_stands told acts note begun s t o log stands (inr e) =
         let mid = e.mid in
         let front = front_stands told e.front s mid o log stands e.made in
-        let all = one_more told mid t o (log ++ map (entry_at (time told mid)) e.front) e.last front e.act in
+        let all = one_more told mid t o (log ++ map (entry_at (time told mid)) e.front) e.last note front e.act in
         let began : time_of moment faults told begun ≡ time told mid = ap (λ (d : D). time_of moment faults told d) e.began in
-        subst (λ (l : List Act). StandsAt told t o (log ++ entries_at (time_of moment faults told begun) (time told t) l)) (sym e.are)
-        (subst (λ (u : Time). StandsAt told t o (log ++ entries_at u (time told t) (e.front ++ e.last ∷ []))) (sym began)
-        (subst (λ (l : List Entry). StandsAt told t o (log ++ l)) (sym (entries_end (time told mid) (time told t) e.front e.last))
-        (subst (λ (l : List Entry). StandsAt told t o l) (append_assoc log (map (entry_at (time told mid)) e.front) (entry_at (time told t) e.last ∷ [])) all)))
+        subst (λ (l : List Act). StandsAt told t o (log ++ entries_at (time_of moment faults told begun) (time told t) note l)) (sym e.are)
+        (subst (λ (u : Time). StandsAt told t o (log ++ entries_at u (time told t) note (e.front ++ e.last ∷ []))) (sym began)
+        (subst (λ (l : List Entry). StandsAt told t o (log ++ l)) (sym (entries_end (time told mid) (time told t) note e.front e.last))
+        (subst (λ (l : List Entry). StandsAt told t o l) (append_assoc log (map (entry_at (time told mid)) e.front) (noted_at (time told t) e.last note ∷ [])) all)))

@@ -1,5 +1,6 @@
 -- A core that takes turns: its hall and its disk, while the disk is in and when it was given out.
 use Rattle.std.specs.Prelude.{◌≡◌, ◌&&◌, ℕ, Bool, true, false, not, List, [], Option, is_some}
+use Rattle.byte_text.specs.Names.{Bytes}
 use Rattle.outside.specs.Sides.{Sides}
 use Rattle.world_data.specs.Sound.{IsSoundWorld}
 use Rattle.world_model.specs.Halls.{Hall}
@@ -15,6 +16,7 @@ use Rattle.durable_core.specs.Kept.{settled_log}
 use Rattle.durable_core.specs.Logged.{hall_of, disk_of, KeepsLogOf}
 use Rattle.durable_core.specs.Histories.{Writing, writing_of}
 use Rattle.durable_core.specs.Rewriting.{is_idle}
+use Rattle.durable_core.specs.Written.{KeepsSided, Sided}
 use Rattle.durable_core.specs.declared.cores.DurableCore.{DurableCore}
 use Rattle.shared_hall.specs.Times.{Time, time_of}
 use Rattle.shared_hall.specs.Standing.{IsAct, FrontBy, TurnBy, Stands}
@@ -55,6 +57,11 @@ abbrev pub KeepsIn : {D : Type 0} → (D → Bool) → (D → Option Sides) → 
 KeepsIn crashes seen images (Inside c) j = KeepsLogOf crashes seen images c j
 KeepsIn crashes seen images (Out left) j = Unit {0}
 
+-- and these are the batches on both sides of it
+abbrev pub SidedIn : {D : Type 0} → (D → Bool) → (D → Option Sides) → (D → Sides → Type 0) → Place D → Sided → Type 0
+SidedIn crashes seen images (Inside c) s = KeepsSided crashes seen images c.tail.journal s
+SidedIn crashes seen images (Out left) s = Unit {0}
+
 -- a disk tells its contents and what a crash may leave
 abbrev pub tells : {D : Type 0} → (D → Bool) → (D → Option Sides) → D → Bool
 tells crashes seen disk = crashes disk && is_some (seen disk)
@@ -62,20 +69,28 @@ tells crashes seen disk = crashes disk && is_some (seen disk)
 -- The members of the disks of which is spoken
 module _ {D : Type 0} (crashes : D → Bool) (seen : D → Option Sides) (images : D → Sides → Type 0) (moment : D → ℕ) (left_since : D → ℕ → Sides
     → Type 0) (faults : D → ℕ) where
-  -- one act of a core
+  -- one act of a core, and its note
+  abbrev pub ActsNoted : Place D → Place D → Act → Bytes → Type 0
+  ActsNoted = IsAct hall_in writing_in disk_in has_left (KeepsIn crashes seen images) (SidedIn crashes seen images) crashes images moment
+      left_since faults
+
+  -- with none
   abbrev pub Acts : Place D → Place D → Act → Type 0
-  Acts = IsAct hall_in writing_in disk_in has_left (KeepsIn crashes seen images) crashes images moment left_since faults
+  Acts old new a = ActsNoted old new a []
 
   -- acts behind which others may come
   abbrev pub ActsInFront : List Act → Place D → Place D → Type 0
-  ActsInFront = FrontBy hall_in writing_in disk_in has_left (KeepsIn crashes seen images) crashes images moment left_since faults
+  ActsInFront = FrontBy hall_in writing_in disk_in has_left (KeepsIn crashes seen images) (SidedIn crashes seen images) crashes images moment
+      left_since faults
 
-  -- the acts of a turn, of which the last begins with this disk
-  abbrev pub TurnsBy : List Act → D → Place D → Place D → Type 0
-  TurnsBy = TurnBy hall_in writing_in disk_in has_left (KeepsIn crashes seen images) crashes images moment left_since faults
+  -- the acts of a turn, of which the last bears this note and begins with this disk
+  abbrev pub TurnsBy : List Act → Bytes → D → Place D → Place D → Type 0
+  TurnsBy = TurnBy hall_in writing_in disk_in has_left (KeepsIn crashes seen images) (SidedIn crashes seen images) crashes images moment
+      left_since faults
 
   abbrev pub StandsIn : Bool → Writing → Place D → Opening → List Entry → Type 0
-  StandsIn = Stands hall_in writing_in disk_in has_left (KeepsIn crashes seen images) crashes images moment left_since faults
+  StandsIn = Stands hall_in writing_in disk_in has_left (KeepsIn crashes seen images) (SidedIn crashes seen images) crashes images moment
+      left_since faults
 
   -- the time of a disk; what was told of the one that was handed in decides whether moments are counted
   abbrev pub time_with : D → D → Time

@@ -1,6 +1,6 @@
 -- Whose seat a seat is, and what it shows.
 use Rattle.std.specs.List.{list_any}
-use Rattle.shared_hall.specs.Times.{is_retirement}
+use Rattle.shared_hall.specs.Times.{Time, entries_at, is_retirement}
 use Rattle.std.specs.Prelude.{◌≡◌, ℕ, Bool, true, Option, None, Some, List, [], ◌++◌}
 use Rattle.atomic_table.specs.declared.shared.Seat.{Seat}
 use Rattle.turn_lock.specs.declared.seat.Held.{Held}
@@ -20,6 +20,7 @@ use Rattle.byte_text.specs.Names.{Bytes}
 use Rattle.durable_core.specs.Histories.{LeavesGeneration, Writing, writing_of}
 use Rattle.durable_core.specs.Logged.{hall_of, disk_of}
 use Rattle.durable_core.specs.Parts.{IsPartOfWorld}
+use Rattle.repl_stream.specs.Texts.{IsAsk, IsPart}
 use Rattle.repl_stream.specs.declared.asks.Ask.{Ask}
 use Rattle.repl_stream.specs.declared.parts.Part.{Part}
 use Rattle.shared_hall.specs.declared.places.HallCore.{HallCore}
@@ -29,7 +30,8 @@ use Rattle.shared_hall.specs.declared.works.HallWork.{HallWork}
 use Rattle.shared_hall.specs.declared.works.HallAnswer.{HallAnswer}
 use Rattle.shared_hall.specs.declared.halls.SharedHall.{SharedHall}
 use Rattle.shared_hall.specs.Cores.{begun, core_in, hall_in, has_left, opening_with, tells, StandsIn}
-use Rattle.shared_hall.specs.Turns.{acts, Gives}
+use Rattle.shared_hall.specs.Fed.{EndsNoted, FeedsLogs, part_note}
+use Rattle.shared_hall.specs.Turns.{acts, note_by, Gives}
 
 abbrev pub LockSeat : Type 0 → Type 0
 LockSeat D = Seat (Option (Held (HallCore D) HallWork (HallAnswer D))) (View (Begun D) Entry HallWork)
@@ -78,14 +80,15 @@ module _ {D : Type 0} (crashes : D → Bool) (seen : D → Option Sides) (images
     first = true;
   }
 
-  -- A turn did a work once, between two states of the core: its acts are entries of the seat's own, and who names the sessions that differ
-  -- names all that the entries changed. The core stands for all that is seen before and behind it. The first seat has seen whether the disk
-  -- was given out before.
+  -- A turn did a work once, between two states of the core: its acts are entries of the seat's own, of which the last bears the work's note, and
+  -- who names the sessions that differ names all that the entries changed. The core stands for all that is seen before and behind it. The first
+  -- seat has seen whether the disk was given out before.
   pub record IsDone (handed : D) (first : Writing) (w : HallWork) (out : HallAnswer D) (old new : Knows) : Type 0 where
     pub before : Place D
     pub after : Place D
     pub gives : Gives crashes seen images moment left_since faults w before out after
     pub adds : AddsCalls (acts w out) old new
+    pub noted : (begun : Time) × (ended : Time) × (adds.entries ≡ entries_at begun ended (note_by w out) (acts w out))
     pub names : (named : List ℕ) → NamesChanged named (hall_in before) (hall_in after)
         → NamesChangedBy new.opening (old.seen ++ adds.between) adds.entries named
     pub stood : StandsIn crashes seen images moment left_since faults (tells crashes seen handed) first before new.opening (old.seen ++ adds.between)
@@ -94,8 +97,12 @@ module _ {D : Type 0} (crashes : D → Bool) (seen : D → Option Sides) (images
     pub once : old.first ≡ true → list_any is_retirement old.seen ≡ has_left before
 
 -- Behind what a seat knows, this part answers the ask: the history leaves a log of this generation, and where the disk that was handed in told
--- its contents and what a crash may leave, the part is of a log whose batches make the world to which the history leads.
+-- its contents and what a crash may leave, the part is of a log whose batches make the world to which the history leads. The last entry tells
+-- the ask and the part by its note; and there all notes of the history, whichever seat's their entries are, tell parts of logs that only grow.
 pub record AnswersAsk (told : Bool) (first : Writing) (k : Knows) (ask : Ask) (part : Part) (bytes : Bytes) : Type 0 where
   pub generation : ℕ
   pub leaves : LeavesGeneration k.opening first k.seen generation
   pub is : told ≡ true → (h : Hall) → Reaches k.opening k.seen h → IsPartOfWorld ask generation h.world part bytes
+  pub noted : EndsNoted k.seen (part_note ask part bytes)
+  pub numbers : told ≡ true → IsAsk ask × IsPart part bytes
+  pub feeds : told ≡ true → FeedsLogs first k

@@ -1,5 +1,6 @@
 -- What the works of a hall do.
 use Rattle.std.specs.Prelude.{◌≡◌, ℕ, Bool, true, false, List, [], ◌∷◌, length, Option, Some, None}
+use Rattle.byte_text.specs.Names.{Bytes}
 use Rattle.outside.specs.Crashes.{EachImage}
 use Rattle.outside.specs.Sides.{Sides}
 use Rattle.world_data.specs.Limits.{take_frames}
@@ -16,8 +17,8 @@ use Rattle.journal.specs.Openings.{opened_generation}
 use Rattle.log_record.specs.Journals.{Journal}
 use Rattle.log_record.specs.Recovery.{Recovers}
 use Rattle.repl_stream.specs.Feeds.{IfGiven, bytes_in, called_of}
-use Rattle.durable_core.specs.Parts.{IsPartOfWorld}
 use Rattle.shared_hall.specs.Cores.{hall_in, disk_in, has_left, log_state_in, writing_in, KeepsIn, time_with}
+use Rattle.shared_hall.specs.Fed.{IsGiven, note_in}
 use Rattle.shared_hall.specs.Times.{entries_at}
 use Rattle.shared_hall.specs.declared.places.HallCore.{HallCore}
 use Rattle.shared_hall.specs.declared.places.Place.{Place}
@@ -44,6 +45,11 @@ acts (work.Part w) (answer.Parted a into) = (event.Rewrite, outcome.Answered (ca
 acts work.Retire (answer.Retired given) = (event.Retire, retire_outcome given) ∷ []
 acts _ _ = []
 
+-- the note of the last of them: a part that was given is told there
+abbrev pub note_by : {D : Type 0} → HallWork → HallAnswer D → Bytes
+note_by (work.Part w) (answer.Parted a into) = note_in w.ask a into
+note_by _ _ = []
+
 -- a work that only the first seat hands in
 abbrev pub retires : HallWork → Bool
 retires work.Retire = true
@@ -55,7 +61,7 @@ module _ {D : Type 0} (crashes : D → Bool) (seen : D → Option Sides) (images
   abbrev pub entries_of : HallWork → HallAnswer D → HallCore D → List Entry
   entries_of w out h = entries_at
       (time_with crashes seen images moment left_since faults h.handed.value (disk_in h.before.value))
-      (time_with crashes seen images moment left_since faults h.handed.value (disk_in h.place)) (acts w out)
+      (time_with crashes seen images moment left_since faults h.handed.value (disk_in h.place)) (note_by w out) (acts w out)
 
   -- the disk is given out once; where all was committed before, whatever a crash may leave of it is the hall's world, and an opening finds a log
   -- of the core's generation there
@@ -81,6 +87,6 @@ module _ {D : Type 0} (crashes : D → Bool) (seen : D → Option Sides) (images
   Gives (work.Remove n) old answer.Done new = Unit {0}
   Gives work.StepRewrite old (answer.Rewrote c state) new = state ≡ log_state_in new
   Gives (work.Part w) old (answer.Parted a into) new = (j : Journal) → KeepsIn crashes seen images old j
-      → IfGiven a (λ part. IsPartOfWorld w.ask (writing_in new).generation (hall_in new).world part (bytes_in into))
+      → IfGiven a (λ part. (batches : List Bytes) × IsGiven (writing_in new).generation (hall_in new).world batches w.ask part (bytes_in into))
   Gives work.Retire old (answer.Retired given) new = GivesOut old given new
   Gives _ _ _ _ = ⊥

@@ -1,7 +1,8 @@
 //! What is done with the core, one act at a time. A core whose disk was given out answers Stopped, as one that has
 //! stopped does.
 
-ghost use Rattle.std.specs.Prelude.{◌≡◌, ◌≤◌, [], true, false, length};
+ghost use Rattle.std.specs.Prelude.{◌≡◌, ◌≤◌, List, [], true, false, length};
+ghost use Rattle.byte_text.specs.Names.{Bytes};
 ghost use Rattle.world_data.specs.Limits.{max_moment, take_frames};
 ghost use Rattle.world_model.specs.Halls.{NamesChanged};
 ghost use Rattle.world_model.specs.Outcomes.{enter_outcome, take_outcome, given_count, is_proper};
@@ -10,8 +11,9 @@ ghost use Rattle.world_model.specs.declared.events.Outcome.TheVariants as outcom
 ghost use Rattle.tile_core.specs.Answered.{AreSessions, StayNamed};
 ghost use Rattle.log_record.specs.Journals.{Journal};
 ghost use Rattle.repl_stream.specs.Feeds.{IfGiven, bytes_in, called_of};
-ghost use Rattle.durable_core.specs.Parts.{IsPartOfWorld};
-ghost use Rattle.shared_hall.specs.Cores.{Acts, KeepsIn, hall_in, log_state_in, writing_in};
+ghost use Rattle.repl_stream.specs.Texts.{IsAsk};
+ghost use Rattle.shared_hall.specs.Fed.{IsGiven, note_in};
+ghost use Rattle.shared_hall.specs.Cores.{Acts, ActsNoted, KeepsIn, hall_in, log_state_in, writing_in};
 ghost use Rattle.shared_hall.specs.Turns.{GivesOut, retire_outcome};
 
 use crate::places::{HallCore, Place};
@@ -20,6 +22,12 @@ use repl_stream::{Ask, PartAnswer, PartBytes};
 use std::mem;
 use std::snapshot::Snapshot;
 use world_model::{Asked, CallOutcome, ChangedSessions, EnterFault, Frames, LogState, Taken};
+
+// The numbers of an ask are of 64 bits. It is the contract of a function that does nothing.
+fn ask_fits(_ask: Ask)
+    ensures { IsAsk _ask }
+{
+}
 
 impl<D: Disk + Drop> HallCore<D> {
     // Notes where the core is before its next act.
@@ -157,16 +165,17 @@ impl<D: Disk + Drop> HallCore<D> {
 
     /// The answer to an ask out of the log, behind a step of rewriting.
     pub(crate) fn log_part(&mut self, ask: Ask, into: &mut PartBytes) -> PartAnswer
-        ensures act { Acts D.crashes D.seen D.images D.moment D.left_since D.faults self.old.place self.new.place
-            (event.Rewrite, outcome.Answered (called_of result)) }
+        ensures act { ActsNoted D.crashes D.seen D.images D.moment D.left_since D.faults self.old.place self.new.place
+            (event.Rewrite, outcome.Answered (called_of result)) (note_in ask result into.new) }
         ensures part { (j : Journal) → KeepsIn D.crashes D.seen D.images self.old.place j
             → IfGiven result
-            (λ part. IsPartOfWorld ask (writing_in self.new.place).generation (hall_in self.new.place).world part
-            (bytes_in into.new)) }
+            (λ part. (batches : List Bytes) × IsGiven (writing_in self.new.place).generation
+            (hall_in self.new.place).world batches ask part (bytes_in into.new)) }
         ensures before { self.new.before.value ≡ self.old.place }
         ensures handed { self.new.handed ≡ self.old.handed }
     {
         self.begin();
+        ask_fits(ask);
         match &mut self.place {
             Place::Inside(core) => core.log_part(ask, into),
             Place::Out(_) => PartAnswer::Stopped,

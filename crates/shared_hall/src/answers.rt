@@ -6,7 +6,7 @@ ghost use Rattle.world_data.specs.Limits.{max_moment};
 ghost use Rattle.world_model.specs.Outcomes.{is_proper, call_acts, IsCount};
 ghost use Rattle.world_model.specs.Halls.{NamesChanged};
 ghost use Rattle.shared_hall.specs.Cores.{hall_in, disk_in, TurnsBy};
-ghost use Rattle.shared_hall.specs.Turns.{acts, Gives};
+ghost use Rattle.shared_hall.specs.Turns.{acts, note_by, Gives};
 ghost use Rattle.shared_hall.specs.declared.works.HallWork.TheVariants as work;
 
 use crate::places::HallCore;
@@ -44,7 +44,7 @@ fn answer<D: Disk + Drop>(core: &mut HallCore<D>, asked: HallWork) -> HallAnswer
     ensures gives { Gives D.crashes D.seen D.images D.moment D.left_since D.faults asked core.old.place result
         core.new.place }
     ensures turn { TurnsBy D.crashes D.seen D.images D.moment D.left_since D.faults (acts asked result)
-        (disk_in core.new.before.value) core.old.place core.new.place }
+        (note_by asked result) (disk_in core.new.before.value) core.old.place core.new.place }
 {
     match asked {
         HallWork::Enter => HallAnswer::Entered(core.enter()),
@@ -73,7 +73,7 @@ fn answer_call<D: Disk + Drop>(core: &mut HallCore<D>, asking: Asking) -> HallAn
     ensures gives { Gives D.crashes D.seen D.images D.moment D.left_since D.faults
         (work.Call asking) core.old.place result core.new.place }
     ensures turn { TurnsBy D.crashes D.seen D.images D.moment D.left_since D.faults (acts (work.Call asking) result)
-        (disk_in core.new.before.value) core.old.place core.new.place }
+        [] (disk_in core.new.before.value) core.old.place core.new.place }
 {
     let Asking {
         session,
@@ -91,7 +91,7 @@ fn answer_take<D: Disk + Drop>(core: &mut HallCore<D>, taking: Taking) -> HallAn
     ensures gives { Gives D.crashes D.seen D.images D.moment D.left_since D.faults
         (work.Take taking) core.old.place result core.new.place }
     ensures turn { TurnsBy D.crashes D.seen D.images D.moment D.left_since D.faults (acts (work.Take taking) result)
-        (disk_in core.new.before.value) core.old.place core.new.place }
+        [] (disk_in core.new.before.value) core.old.place core.new.place }
 {
     let Taking { session, mut into } = taking;
     let taken = core.take(session, &mut into);
@@ -103,7 +103,7 @@ fn answer_tick<D: Disk + Drop>(core: &mut HallCore<D>, ticking: Ticking) -> Hall
     ensures gives { Gives D.crashes D.seen D.images D.moment D.left_since D.faults
         (work.Tick ticking) core.old.place result core.new.place }
     ensures turn { TurnsBy D.crashes D.seen D.images D.moment D.left_since D.faults (acts (work.Tick ticking) result)
-        (disk_in core.new.before.value) core.old.place core.new.place }
+        [] (disk_in core.new.before.value) core.old.place core.new.place }
 {
     let Ticking {
         moment,
@@ -119,7 +119,7 @@ fn answer_part<D: Disk + Drop>(core: &mut HallCore<D>, asking: AskingPart) -> Ha
     ensures gives { Gives D.crashes D.seen D.images D.moment D.left_since D.faults
         (work.Part asking) core.old.place result core.new.place }
     ensures turn { TurnsBy D.crashes D.seen D.images D.moment D.left_since D.faults (acts (work.Part asking) result)
-        (disk_in core.new.before.value) core.old.place core.new.place }
+        (note_by (work.Part asking) result) (disk_in core.new.before.value) core.old.place core.new.place }
 {
     let AskingPart { ask, mut into } = asking;
     let given = core.log_part(ask, &mut into);
@@ -141,7 +141,7 @@ fn call_each<D: Disk + Drop>(
     ensures handed { core.new.handed ≡ core.old.handed }
     ensures turn { TurnsBy D.crashes D.seen D.images D.moment D.left_since D.faults
         (call_acts session moment asked.now result.served result.end)
-        (disk_in core.new.before.value) core.old.place core.new.place }
+        [] (disk_in core.new.before.value) core.old.place core.new.place }
     ensures named { NamesChanged touched.new (hall_in core.old.place) (hall_in core.new.place) }
 {
     for i in 0..asked.len() {

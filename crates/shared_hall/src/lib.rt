@@ -5,10 +5,12 @@
 mod acts;
 mod answers;
 mod halls;
+mod laws;
 mod places;
 mod values;
 mod works;
 
 pub use halls::{HallSeat, SharedHall};
+pub use laws::followers_show_histories;
 pub use places::{Begun, HallCore, Place};
 pub use works::{Asking, HallAnswer, HallWork, Taking, Ticking};

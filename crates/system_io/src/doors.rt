@@ -6,11 +6,14 @@
 //! asked again after a while, though nobody is reported.
 //!
 //! At a door for plain links alone each caller is let in at once. At one for WebSockets a caller waits in the door until
-//! it is known which kind of link it wants, and whom the door answers itself is never let in.
+//! it is known which kind of link it wants, and whom the door answers itself is never let in. A door for links that it
+//! opens itself lets nobody in and listens nowhere: each look calls at the address, waits for the answer, and fails
+//! where none comes soon.
 
 ghost use Rattle.std.specs.Prelude.{◌≡◌, ◌≤◌, None};
 ghost use Rattle.outside.specs.Causes.{Rose};
 
+use crate::dials::{dial, look_up};
 use crate::guests::Look;
 use crate::lines::Line;
 use crate::links::PollLink;
@@ -19,14 +22,15 @@ use crate::lobbies::Lobby;
 use mio::net::TcpListener;
 use outside::{Caller, Failed, Kinds, OpenPort, Port, ReadyDoor};
 use std::alloc::Global;
-use std::net::Net;
-use std::rt;
+use std::net::{self, Net};
 use std::time::Instant;
+use std::{io, rt};
 
-/// The callers at a TCP address. It fails where it can't listen, and where its listener is none; that a caller went
-/// away, or that the system has no descriptor or memory for one, is no failure of the door. It tells no end.
+/// The callers at a TCP address, or the links that it opens there itself. It fails where it can't listen, where its
+/// listener is none, and where nobody answers whom it calls; that a caller went away, or that the system has no
+/// descriptor or memory for one, is no failure of the door. It tells no end.
 #[derive(Drop)]
-pub struct PollDoor<R: Net + rt::Clock + Copy + Drop> {
+pub struct PollDoor<R: Net<Stream = net::TcpStream> + rt::Clock + Copy + Drop> {
     rt: R,
     alloc: Global,
     pub(crate) listener: Option<TcpListener>,
@@ -36,7 +40,16 @@ pub struct PollDoor<R: Net + rt::Clock + Copy + Drop> {
     pub(crate) faults: u64,
 }
 
-impl<R: Net + rt::Clock + Copy + Drop> PollDoor<R> {
+// Listens where a port is for callers. One for links that the door opens itself has to have an address only.
+fn listener_for<R: Net>(rt: &R, port: &Port<'_>) -> io::Result<Option<TcpListener>> {
+    if port.kinds == Kinds::Dialed {
+        look_up(rt, port.addr)?;
+        return Ok(None);
+    }
+    Ok(Some(listener_at(rt, port.addr)?))
+}
+
+impl<R: Net<Stream = net::TcpStream> + rt::Clock + Copy + Drop> PollDoor<R> {
     /// A door that is not open yet.
     pub fn new(rt: R, alloc: Global) -> PollDoor<R>
         ensures opened { result.opened ≡ None }
@@ -65,13 +78,19 @@ impl<R: Net + rt::Clock + Copy + Drop> PollDoor<R> {
         Failed
     }
 
-    // Looks for one who is let in.
+    // Looks for one who is let in, or calls.
     fn look(&mut self) -> Result<Option<Line>, NoListener>
         ensures opened { self.new.opened ≡ self.old.opened }
         ensures links { self.new.links ≡ self.old.links }
         ensures faults { self.new.faults ≡ self.old.faults }
     {
-        let (Some(listener), Some(port)) = (&self.listener, &self.opened) else {
+        let Some(port) = &self.opened else {
+            return Err(NoListener);
+        };
+        if port.kinds == Kinds::Dialed {
+            return Ok(Some(Line::Plain(dial(&self.rt, port.addr.as_slice())?)));
+        }
+        let Some(listener) = &self.listener else {
             return Err(NoListener);
         };
         if port.kinds == Kinds::Plain {
@@ -88,7 +107,7 @@ impl<R: Net + rt::Clock + Copy + Drop> PollDoor<R> {
     }
 }
 
-impl<R: Net + rt::Clock + Copy + Drop> ReadyDoor for PollDoor<R> {
+impl<R: Net<Stream = net::TcpStream> + rt::Clock + Copy + Drop> ReadyDoor for PollDoor<R> {
     ghost use Rattle.outside.specs.Doors.{DoorState, Opens, Accepts, opened_at};
 
     type Link = PollLink;
@@ -105,9 +124,9 @@ impl<R: Net + rt::Clock + Copy + Drop> ReadyDoor for PollDoor<R> {
         let Ok(opened) = OpenPort::of(self.alloc, port) else {
             return Err(self.fail());
         };
-        match listener_at(&self.rt, port.addr) {
+        match listener_for(&self.rt, port) {
             Ok(listener) => {
-                self.listener = Some(listener);
+                self.listener = listener;
                 self.opened = Some(opened);
                 Ok(())
             }

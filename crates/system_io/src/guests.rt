@@ -148,7 +148,7 @@ fn wait_on(look: &Look<'_>, stream: TcpStream, since: Option<Instant>, stage: St
 // A caller who does not speak HTTP is let in where plain links are.
 fn let_in_plain(look: &Look<'_>, stream: TcpStream) -> Step {
     match look.kinds {
-        Kinds::Plain | Kinds::Both => Step::Came(Line::Plain(stream)),
+        Kinds::Plain | Kinds::Both | Kinds::Dialed => Step::Came(Line::Plain(stream)),
         Kinds::Web => answer_with(look, stream, &Answer::BadRequest),
     }
 }
@@ -171,7 +171,7 @@ fn hear_first(look: &Look<'_>, stream: TcpStream, since: Option<Instant>) -> Ste
 fn hear_nothing(look: &Look<'_>, stream: TcpStream, since: Option<Instant>) -> Step {
     match look.kinds {
         Kinds::Web => wait_on(look, stream, since, Stage::Unheard),
-        Kinds::Plain | Kinds::Both => Step::Stays(Guest {
+        Kinds::Plain | Kinds::Both | Kinds::Dialed => Step::Stays(Guest {
             stream,
             since,
             stage: Stage::Unheard,

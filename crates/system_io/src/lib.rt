@@ -3,6 +3,7 @@
 #![tactic(auto)]
 
 mod alive;
+mod dials;
 mod doors;
 mod folder_disks;
 mod guests;

@@ -43,8 +43,8 @@ pub(crate) fn listener_at<R: Net>(rt: &R, addr: &str) -> io::Result<TcpListener>
     Err(last)
 }
 
-// A stream that sends small pieces at once, and whose caller is asked after.
-fn set_up(stream: TcpStream) -> io::Result<TcpStream> {
+/// A stream that sends small pieces at once, and whose other end is asked after.
+pub(crate) fn set_up(stream: TcpStream) -> io::Result<TcpStream> {
     stream.set_nodelay(true)?;
     keep_alive(&stream)?;
     Ok(stream)

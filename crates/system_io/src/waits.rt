@@ -15,7 +15,7 @@ use outside::{Failed, Named, NoMemory, WaitForLinks, Wake};
 use std::alloc::Global;
 use std::io::{self, ErrorKind};
 use std::marker::PhantomData;
-use std::net::Net;
+use std::net::{self, Net};
 use std::os::fd::AsRawFd;
 use std::rt;
 use std::sync::Arc;
@@ -110,7 +110,8 @@ fn named_by(token: Token, over: bool) -> Named {
     }
 }
 
-impl<R: Net + rt::Clock + Copy + Drop> WaitForLinks<PollDoor<R>> for PollWait<R> {
+impl<R: Net<Stream = net::TcpStream> + rt::Clock + Copy + Drop> WaitForLinks<PollDoor<R>>
+    for PollWait<R> {
     ghost use Rattle.std.specs.Prelude.{◌≡◌};
     ghost use Rattle.outside.specs.Waits.{WaitState, Tries, Waits, Shuts};
 

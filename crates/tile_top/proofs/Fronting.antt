@@ -36,6 +36,7 @@ use Rattle.serve_run.specs.LoopServes.{ServesLoop}
 use Rattle.outside.specs.Doors.{DoorState}
 use Rattle.outside.specs.Waits.{WaitState}
 use Rattle.world_model.specs.declared.events.Opening.{Opening}
+use Rattle.shared_hall.specs.Fed.{FeedsLogs}
 use Rattle.shared_hall.specs.Seats.{AnswersAsk}
 use Rattle.shared_hall.specs.Times.{is_retirement}
 use Rattle.shared_hall.specs.Turns.{retire_outcome}
@@ -229,10 +230,11 @@ opened_as {D} core c s same idle generation =
 -- a hall was retired behind its serving
 pub fronts_behind : {F : Type 0} (shows : F → Knows) (tell : Bool) (seen : Option Sides) (writing : Writing) (told : Option ℕ) (s : Serve) (first served : Knows) (door door' : DoorState) (wait wait' : WaitState) (held between held' : Option Bytes) (before status : ℕ) (front : Option F)
     → IsFirst seen first → ((sides : Sides) → seen ≡ Some sides → writing ≡ opened_writing sides) → ServesLoop told (AnswersAsk tell writing) s (around first door wait) (around served door' wait') held between before
-    → IfSome (option_map shows front) (λ k. IsRetired served k between held' before status) → IfSome (option_map shows front) (ServesFront tell seen told s door door' wait wait' held held' status)
-fronts_behind shows tell seen writing told s first served door door' wait wait' held between held' before status None f b v r = tt
-fronts_behind shows tell seen writing told s first served door door' wait wait' held between held' before status (Some x) f b v r =
-    record { first = first; is_first = f; writing = writing; begun = b; served = served; between = between; before = before; serves = v; retired = r }
+    → IfSome (option_map shows front) (λ k. IsRetired served k between held' before status)
+    → (tell ≡ true → IfSome (option_map shows front) (FeedsLogs writing)) → IfSome (option_map shows front) (ServesFront tell seen told s door door' wait wait' held held' status)
+fronts_behind shows tell seen writing told s first served door door' wait wait' held between held' before status None f b v r fed = tt
+fronts_behind shows tell seen writing told s first served door door' wait wait' held between held' before status (Some x) f b v r fed =
+    record { first = first; is_first = f; writing = writing; begun = b; served = served; between = between; before = before; serves = v; retired = r; fed = fed }
 
 pub mapped_some : {F : Type 0} (shows : F → Knows) (front : Option F) → is_some front ≡ true → is_some (option_map shows front) ≡ true
 mapped_some shows None some = absurd (cc)

@@ -24,12 +24,12 @@ pub not_alone : (begins : List Bytes → Bool) (words : List Bytes) (name : Byte
 not_alone begins words name apart begun is = true≢false (sym begun ∙ ap begins is ∙ apart)
 
 -- words that ask to serve begin so, and ask for no workload
-serving_of : {A : Type 0} (serve ws : Bool) (o p : Option A) (x : A) → Some x ≡ (if serve then o else if ws then p else None) → (serve ≡ true) ⊎ (ws ≡ true)
+pub serving_of : {A : Type 0} (serve ws : Bool) (o p : Option A) (x : A) → Some x ≡ (if serve then o else if ws then p else None) → (serve ≡ true) ⊎ (ws ≡ true)
 serving_of true ws o p x is = inl refl
 serving_of false true o p x is = inr refl
 serving_of false false o p x is = absurd (cc)
 
-begins_alone : (words : List Bytes) (name other : Bytes) → bytes_eq name other ≡ false → begins_with name words ≡ true → begins_with other words ≡ false
+pub begins_alone : (words : List Bytes) (name other : Bytes) → bytes_eq name other ≡ false → begins_with name words ≡ true → begins_with other words ≡ false
 begins_alone [] name other apart begun = refl
 begins_alone (word ∷ words) name other apart begun = ap (λ (w : Bytes). bytes_eq w other) ((bytes_eq-Decides word name).0 begun) ∙ apart
 

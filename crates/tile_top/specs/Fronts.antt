@@ -25,6 +25,7 @@ use Rattle.serve_run.specs.Loops.{around}
 use Rattle.serve_run.specs.LoopServes.{ServesLoop}
 use Rattle.outside.specs.Doors.{DoorState}
 use Rattle.outside.specs.Waits.{WaitState}
+use Rattle.shared_hall.specs.Fed.{FeedsLogs}
 use Rattle.shared_hall.specs.Seats.{AnswersAsk}
 use Rattle.shared_hall.specs.Times.{is_retirement}
 use Rattle.replay_run.specs.Openings.{Opens, IsDamagedAt}
@@ -103,7 +104,8 @@ IsRewritten seen handed disk k = (s : Sides) → seen handed ≡ Some s → IsWr
 -- A shared hall of the disk's world was made, and links were served in a loop up to an end; then it was retired. The server's seat has seen
 -- a legal history, and its own entries are those of the serving, and the retirement. Each part that a follower was given is of the log to which
 -- that history had led then, from the opening of the disk on: where the disk told its contents and what a crash may leave, of whole batches
--- that make the world of the history so far.
+-- that make the world of the history so far. There all parts that followers were given, as the notes of the whole history tell them, are of logs
+-- that only grew, by each of which the world was that of the history so far.
 pub record ServesFront (tell : Bool) (seen : Option Sides) (told : Option ℕ) (s : Serve) (door door' : DoorState) (wait wait' : WaitState)
     (held held' : Option Bytes) (status : ℕ) (k : Knows) : Type 0 where
   pub first : Knows
@@ -115,6 +117,7 @@ pub record ServesFront (tell : Bool) (seen : Option Sides) (told : Option ℕ) (
   pub before : ℕ
   pub serves : ServesLoop told (AnswersAsk tell writing) s (around first door wait) (around served door' wait') held between before
   pub retired : IsRetired served k between held' before status
+  pub fed : tell ≡ true → FeedsLogs writing k
 
 -- by what the server's seat has seen, where a hall was made
 abbrev pub Fronts : Bool → Option Sides → (Halt → Type 0) → Option ℕ → Serve → DoorState → DoorState → WaitState → WaitState → Option Bytes

@@ -4,3 +4,6 @@ pub mod Tops
 pub mod Checks
 pub mod Fronts
 pub mod Backtests
+pub mod FollowWords
+pub mod Follows
+pub mod Tellings

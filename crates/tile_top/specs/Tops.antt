@@ -21,7 +21,7 @@ use Rattle.replay_run.specs.declared.halts.Halt.TheVariants as halted
 
 -- the last lines
 abbrev pub usage_line : Bytes
-usage_line = codes "usage: tile_server replay | check | load N SEED | serve ADDR [--sessions N] | ws ADDR [--sessions N] | backtest\n"
+usage_line = codes "usage: tile_server replay | check | load N SEED | serve ADDR [--sessions N] | follow ADDR | ws ADDR [--sessions N] | backtest\n"
 
 abbrev pub script_line : ℕ → Bytes
 script_line number = codes "script fault at line " ++ decimal number ++ codes "\n"
@@ -74,11 +74,12 @@ IsStopped told first Ends ReadFailed left0 left held0 held = IsWithinLine told f
     ⊎ ((halt : Halt) × (part : Bytes) × (IsPrefix part (line_of halt) ⊎ (IsDamage halt × IsPrefix part memory_line))
     × IsCut told first Ends left0 left held0 held halt part)))
 
--- A list of words that asks for nothing: the line on the usage was written; or memory wanted for reading what stands behind `serve`, `ws` or
--- `load`, and that was.
+-- A list of words that asks for nothing: the line on the usage was written; or memory wanted for reading what stands behind `serve`, `ws`,
+-- `load` or `follow`, and that was.
 abbrev pub IsUsage : List Bytes → Option Bytes → Option Bytes → ℕ → Type 0
 IsUsage words held held' status = IsEnd held held' 1 usage_line status
-    ⊎ (((begins_to_serve words ≡ true) ⊎ (begins_with (codes "load") words ≡ true)) × IsEnd held held' 7 memory_line status)
+    ⊎ (((begins_to_serve words ≡ true) ⊎ ((begins_with (codes "load") words ≡ true) ⊎ (begins_with (codes "follow") words ≡ true)))
+    × IsEnd held held' 7 memory_line status)
 
 -- the program's words are this one alone
 abbrev pub IsReplay : List Bytes → Type 0

@@ -15,8 +15,13 @@ use serve_run::{DISK_FAULT, OUT_OF_MEMORY, end};
 use std::alloc::Global;
 use world_model::CallOutcome;
 
-// The line of a world, and of the generation of its log.
-fn check_text(alloc: Global, objects: u64, channels: u64, generation: u64) -> Result<Text, NoMemory>
+/// The line of a world, and of the generation of its log.
+pub(crate) fn check_text(
+    alloc: Global,
+    objects: u64,
+    channels: u64,
+    generation: u64,
+) -> Result<Text, NoMemory>
     ensures { IfOk result
         (λ t. t ≡ codes "objects " ++ decimal objects ++ codes " channels " ++ decimal channels ++ codes " generation "
         ++ decimal generation ++ codes "\n") }

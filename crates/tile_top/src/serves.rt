@@ -10,6 +10,7 @@ ghost use Rattle.journal.specs.declared.openings.OpenFault.TheVariants as fault_
 ghost use Rattle.log_record.specs.Readings.{Damaged};
 ghost use Rattle.replay_run.specs.HandedBack.{IsBackAt, IsBackUnopened};
 ghost use Rattle.shared_hall.specs.Cores.{tells};
+ghost use Rattle.shared_hall.specs.Fed.{FeedsLogs};
 ghost use Rattle.shared_hall.specs.Seats.{IsOf, first_writing, handed_of, knows_of};
 ghost use Rattle.serve_run.specs.Words.{asked_of};
 ghost use Rattle.tile_top.specs.Fronts.{EndsBehind, Fronts, IsCounted, IsDue, IsFirst, IsLeft, IsRetired, IsRewritten, IsWrittenFrom};
@@ -88,6 +89,8 @@ fn retire_hall<K: Sink, D: Disk + Drop, R: Wait>(
     ensures front { IfSome (option_map knows_of result.front)
         (λ k. IsRetired (knows_of seat) k (K.held sink.old) (K.held sink.new) before result.status) }
     ensures some { is_some result.front ≡ true }
+    ensures fed { tells D.crashes D.seen (handed_of hall.now) ≡ true
+        → IfSome (option_map knows_of result.front) (FeedsLogs (first_writing hall.now)) }
     ensures safe { tells D.crashes D.seen (handed_of hall.now) ≡ true
         → IfSome result.front (λ last. IfSome result.disk (λ d. IsLeft D.images D.left_since d (knows_of last))) }
     ensures rewritten { tells D.crashes D.seen (handed_of hall.now) ≡ true

@@ -6,6 +6,8 @@ ghost use Rattle.outside.specs.Causes.{Rose};
 ghost use Rattle.outside.specs.Sides.{Sides};
 ghost use Rattle.serve_run.specs.Ends.{IsEnd, memory_line};
 ghost use Rattle.serve_run.specs.Words.{serve_of};
+ghost use Rattle.tile_top.specs.FollowWords.{follow_of};
+ghost use Rattle.tile_top.specs.Follows.{Follows};
 ghost use Rattle.tile_top.specs.Loads.{Loads};
 ghost use Rattle.tile_top.specs.LoadWords.{load_of};
 ghost use Rattle.replay_run.specs.Traces.{opens};
@@ -19,12 +21,11 @@ ghost use Rattle.tile_top.specs.Backtests.{Backtests, IsBacktest, IsReadAlone};
 ghost use Rattle.tile_top.specs.Checks.{Checks};
 ghost use Rattle.tile_top.specs.Fronts.{Fronts, IsCounted, IsDue, IsLeft, IsRewritten};
 
+use crate::asides::aside;
 use crate::backtests::backtest_disk;
 use crate::checks::check_disk;
-use crate::loads::load_core;
 use crate::replays::{Scripted, replay_script};
 use crate::serves::serve_hall;
-use crate::workloads::load_words;
 use byte_text::NoMemory;
 use outside::{Clock, Disk, ReadyDoor, Sink, Source, WaitForLinks};
 use serve_run::{OUT_OF_MEMORY, end, serve_words};
@@ -33,14 +34,11 @@ use std::alloc::Global;
 use std::sync::Wait;
 use std::thread::Threads;
 
-const USAGE: &[u8] =
-    b"usage: tile_server replay | check | load N SEED | serve ADDR [--sessions N] | ws ADDR [--sessions N] | backtest\n";
-
 /// How the program ended.
 #[derive(Drop)]
 pub struct Ended<D: Disk + Drop> {
     /// 0 done, 1 usage, 2 script fault, 3 read fault, 4 write fault, 5 disk fault, 6 damaged, 7 out of memory, 8 door
-    /// fault, 9 log at its greatest length, 11 bad fence.
+    /// fault, 9 log at its greatest length, 10 bad part, 11 bad fence.
     pub status: u8,
     /// The disk; none where a shared hall does not give it out.
     pub disk: Option<D>,
@@ -88,20 +86,22 @@ pub fn out_of_memory<K: Sink, D: Disk + Drop>(sink: &mut K) -> Ended<D>
 /// Does what the words ask for, the words after the program's name: `replay` plays the script that the source gives on
 /// the world of the disk, and writes its output to the sink. `check` opens the disk, and writes what it has. `serve
 /// ADDR` opens the door at the address and serves callers in a loop on one hall of the disk's world, up to an end; `ws
-/// ADDR` does so for WebSockets alone. `load N SEED` drives a core of its own with the generated workload of N
-/// commands, from 1 to 1,000,000, and writes its summary. `backtest` reads from the source which fence is asked for,
-/// and writes what it would have raised over the changes of the disk's log. Every other list of words is answered by a
-/// line on the usage and status 1. Nothing is read but with `replay` and `backtest`, and the disk is left alone but
-/// with all of these but `load`.
+/// ADDR` does so for WebSockets alone. `follow ADDR` calls the leader that listens at the address, follows its log in
+/// memory up to a published world, and writes the line of that; with `--watch` it goes on and on. `load N SEED` drives
+/// a core of its own with the generated workload of N commands, from 1 to 1,000,000, and writes its summary. `backtest`
+/// reads from the source which fence is asked for, and writes what it would have raised over the changes of the disk's
+/// log. Every other list of words is answered by a line on the usage and status 1. Nothing is read but with `replay`
+/// and `backtest`, and the disk is left alone but with all of these but `load` and `follow`.
 ///
-/// The words behind `serve`, `ws` and `load` are what `clap` takes of them, and each number is canonical. Options stand
-/// in any order, before or behind ADDR, each at most once: with `--sessions N`, from 1 to 1,000,000,000, N callers are
-/// served at most; with `--idle SECONDS`, from 1 to 1,000,000,000, links that were idle for so long are dismissed; with
-/// `--shrink-at PERCENT`, from 0 to 1,000,000, the log is rewritten when it has grown by so many per cent, 100 where
-/// nothing is said, and never with 0; with `--until-stdin-ends` the end may be asked for, as the one that waits tells;
-/// `--origin LIST` names the origins, with a comma between two, of pages that may open a WebSocket beside the server's
-/// own; with `serve ADDR --ws` the door takes links of both kinds. Reading them takes memory: where that wants, the
-/// line of status 7 is written, also where the words ask for nothing, and nothing else is done.
+/// The words behind `serve`, `ws`, `load` and `follow` are what `clap` takes of them, and each number is canonical.
+/// Options stand in any order, before or behind ADDR, each at most once: with `--sessions N`, from 1 to 1,000,000,000,
+/// N callers are served at most; with `--idle SECONDS`, from 1 to 1,000,000,000, links that were idle for so long are
+/// dismissed; with `--shrink-at PERCENT`, from 0 to 1,000,000, the log is rewritten when it has grown by so many per
+/// cent, 100 where nothing is said, and never with 0; with `--until-stdin-ends` the end may be asked for, as the one
+/// that waits tells; `--origin LIST` names the origins, with a comma between two, of pages that may open a WebSocket
+/// beside the server's own; with `serve ADDR --ws` the door takes links of both kinds. Behind `follow ADDR` stand
+/// `--watch`, and beside it alone `--until-stdin-ends`. Reading them takes memory: where that wants, the line of status
+/// 7 is written, also where the words ask for nothing, and nothing else is done.
 ///
 /// Where a disk is opened. It begins with the world that the disk is recovered as, where it tells what it holds; else
 /// with some sound world. Status 6 comes exactly where its sides are damaged, and its line says where; 5 comes only
@@ -184,6 +184,19 @@ pub fn out_of_memory<K: Sink, D: Disk + Drop>(sink: &mut K) -> Ended<D>
 /// and 4 comes only where the sink failed, with a beginning of what was due. At each status the disk reads as before:
 /// nothing is made of it, and no crash leaves then what it might not have left before.
 ///
+/// With `follow`. The door is opened at that address for links that it opens itself. The links that came, each of the
+/// next number of the door, were followed one after another by one node that had heard nothing at first: on each the
+/// node took parts in order, each the answer to its ask, and was written no more than its asks. Each is shut, and the
+/// one that waits, where it tells which links were shut, tells it, but for the last one at status 7. Behind each world
+/// that is published its line is written, but where the world that was told last goes up to the same place of the log.
+/// Once: one link is followed, up to the first world, and status 0 says that its line was written. Status 10 comes where
+/// the door told that nobody comes, the link ended before that, or what came is no part that the node takes; 3 where a
+/// read of the link failed and 4 where a write to it did, by its count of failures; 8 only where the door has failed or
+/// the one that waits has. With `--watch` a link that ended or failed is lost, and the leader is called again, also
+/// where a look failed; status 0 comes only where the end may be asked for and was, 10 as before but not for a link that
+/// ended, 8 only where the door was not opened or the one that waits has failed, and there is no status 3. Status 7
+/// stands for want of memory, 4 comes also where the sink failed, and then a beginning of the lines was written.
+///
 /// With `load`. Status 0: the bytes written are the four lines that N and SEED determine: what the sessions of the
 /// workload are given by the steps of a machine that begins with the empty world, and the number of objects in the end.
 /// At 7, which stands for want of memory alone, they are the status's line. 4 comes only where the sink failed, and
@@ -243,23 +256,30 @@ where
         (λ last. IfSome result.disk (λ d. IsCounted (D.faults disk) (D.faults d) (knows_of last))) }
     ensures load { IfSome (load_of (map string_bytes words.now))
         (λ w. Loads w (K.held sink.old) (K.held sink.new) result.status) }
+    ensures follow { IfSome (follow_of (map string_bytes words.now))
+        (λ f. Follows f (L.shows door.old) (L.shows door.new) (W.shows wait.old) (W.shows wait.new)
+        (K.held sink.old) (K.held sink.new) (K.faults sink.old) (K.faults sink.new) result.status) }
     ensures usage { (IsReplay (map string_bytes words.now) → ⊥) → (IsCheck (map string_bytes words.now) → ⊥)
-        → (IsBacktest (map string_bytes words.now) → ⊥) → serve_of (map string_bytes words.now) ≡ None → load_of (map string_bytes words.now) ≡ None
+        → (IsBacktest (map string_bytes words.now) → ⊥) → serve_of (map string_bytes words.now) ≡ None
+        → load_of (map string_bytes words.now) ≡ None → follow_of (map string_bytes words.now) ≡ None
         → IsUsage (map string_bytes words.now) (K.held sink.old) (K.held sink.new) result.status }
     ensures unread { (IsReplay (map string_bytes words.now) → ⊥) → (IsBacktest (map string_bytes words.now) → ⊥)
         → source.new ≡ source.old }
     ensures untouched { (IsReplay (map string_bytes words.now) → ⊥) → (IsCheck (map string_bytes words.now) → ⊥)
         → (IsBacktest (map string_bytes words.now) → ⊥) → serve_of (map string_bytes words.now) ≡ None → result.disk ≡ Some disk }
     ensures handed { result.front ≡ None → is_some result.disk ≡ true }
-    ensures apart { serve_of (map string_bytes words.now) ≡ None → (door.new ≡ door.old) × (wait.new ≡ wait.old) }
+    ensures apart { serve_of (map string_bytes words.now) ≡ None → follow_of (map string_bytes words.now) ≡ None
+        → (door.new ≡ door.old) × (wait.new ≡ wait.old) }
     ensures alone { serve_of (map string_bytes words.now) ≡ None → result.front ≡ None }
     ensures source { S.faults source.old ≤ S.faults source.new }
     ensures sink { K.faults sink.old ≤ K.faults sink.new }
     ensures door { (L.shows door.old).faults ≤ (L.shows door.new).faults }
     ensures wait { (W.shows wait.old).faults ≤ (W.shows wait.new).faults }
     ensures later { result.front ≡ None → IfSome result.disk (λ d. D.faults disk ≤ D.faults d) }
-    ensures read { result.status ≡ 3 → Rose (S.faults source.old) (S.faults source.new) }
-    ensures write { result.status ≡ 4 → Rose (K.faults sink.old) (K.faults sink.new) }
+    ensures read { follow_of (map string_bytes words.now) ≡ None
+        → result.status ≡ 3 → Rose (S.faults source.old) (S.faults source.new) }
+    ensures write { follow_of (map string_bytes words.now) ≡ None
+        → result.status ≡ 4 → Rose (K.faults sink.old) (K.faults sink.new) }
     ensures disk { result.front ≡ None → result.status ≡ 5
         → IfSome result.disk (λ d. Rose (D.faults disk) (D.faults d)) }
     ensures accept { result.status ≡ 8 → Rose (L.shows door.old).faults (L.shows door.new).faults
@@ -280,10 +300,6 @@ where
             let scripted = backtest_disk(rt, alloc, source, sink, disk);
             without_hall(scripted.status, scripted.disk)
         }
-        Ok(None) => match load_words(alloc, words) {
-            Err(NoMemory) => without_hall(end(sink, 7, OUT_OF_MEMORY), disk),
-            Ok(Some(asked)) => without_hall(load_core(alloc, asked, sink), disk),
-            Ok(None) => without_hall(end(sink, 1, USAGE), disk),
-        },
+        Ok(None) => without_hall(aside(rt, alloc, words, sink, door, wait), disk),
     }
 }

@@ -78,6 +78,13 @@ impl WorldReplay {
         }
     }
 
+    /// The world of the whole records that were taken.
+    pub fn world(&self) -> &StoredWorld
+        ensures { result.now ≡ self.now.world }
+    {
+        &self.world
+    }
+
     /// The world.
     pub fn into_world(self) -> StoredWorld
         ensures { result ≡ self.world }

@@ -1,6 +1,7 @@
 //! The objects of a stored world.
 
 ghost use Rattle.std.specs.Prelude.{◌≡◌, ◌+◌, ◌≤◌, ◌<◌, ◌^◌, [], true, not, length, filter, sum_by, OnOk, OnErr};
+ghost use Rattle.std.specs.Prelude.{find, None, Some, IfNone, IfSome};
 ghost use Rattle.ordered_lists.specs.Lists.{put_in};
 ghost use Rattle.world_data.specs.Worlds.{are_objects, has_key, is_at, object_before};
 ghost use Rattle.record_writer.specs.Lengths.{HasFewFields, len_of, HaveFewFields};
@@ -65,6 +66,14 @@ impl StoredObjects {
         ensures { result ≡ length self.now }
     {
         self.objects.len()
+    }
+
+    /// The object of this key and this id, where there is one.
+    pub(crate) fn get(&self, key: &Name, id: &Name) -> Option<&Object>
+        ensures none { IfNone result (find (is_at key.now id.now) self.now ≡ None) }
+        ensures some { IfSome result (λ o. find (is_at key.now id.now) self.now ≡ Some o.now) }
+    {
+        self.objects.get(key, id)
     }
 
     /// Puts an object at its place, in place of the one of its key and id. For want of memory the objects are as

@@ -1,18 +1,18 @@
 //! A stored world, and the parts that it is taken apart into.
 
-ghost use Rattle.std.specs.Prelude.{◌≡◌, ◌<◌, ◌^◌, true, length, sum_by, OnOk, OnErr};
-ghost use Rattle.world_data.specs.Worlds.{empty_world, after};
+ghost use Rattle.std.specs.Prelude.{◌≡◌, ◌<◌, ◌^◌, true, length, sum_by, None, Some, IfNone, IfSome, OnOk, OnErr};
+ghost use Rattle.world_data.specs.Worlds.{empty_world, after, object_at};
 ghost use Rattle.record_writer.specs.Lengths.{len_of, len_of_channel, HaveFewFields};
 ghost use Rattle.world_store.specs.Stored.{HasFew, due_from, earlier_of, is_put, world_of};
 
 use crate::stored_channels::StoredChannels;
 use crate::stored_objects::StoredObjects;
-use byte_text::NoMemory;
+use byte_text::{Name, NoMemory};
 use channel_hub::Hub;
 use keyspace::Keyspace;
 use std::alloc::Global;
 use std::marker::Model;
-use world_data::Change;
+use world_data::{Change, Object};
 
 /// A world as it is kept. A change of one object or channel takes time that grows as the logarithm of their number, and
 /// its root.
@@ -74,6 +74,14 @@ impl StoredWorld {
         ensures { result ≡ length self.now.channels }
     {
         self.channels.len()
+    }
+
+    /// The object of this key and this id, where there is one.
+    pub fn get(&self, key: &Name, id: &Name) -> Option<&Object>
+        ensures none { IfNone result (object_at self.now key.now id.now ≡ None) }
+        ensures some { IfSome result (λ o. object_at self.now key.now id.now ≡ Some o.now) }
+    {
+        self.objects.get(key, id)
     }
 
     /// Makes the world the one after the change. For want of memory, which comes at a put or a setting alone, it is as

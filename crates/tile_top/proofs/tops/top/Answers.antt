@@ -13,10 +13,15 @@ use Rattle.replay_run.specs.Traces.{opens}
 use Rattle.replay_run.specs.Standing.{IsSafeFor}
 use Rattle.replay_run.specs.Checks.{IsLookedAt}
 use Rattle.replay_run.specs.declared.halts.Halt.{Halt}
-use Rattle.tile_top.specs.Tops.{Replays, usage_line}
+use Rattle.tile_top.specs.FollowWords.{follow_of}
+use Rattle.tile_top.specs.Follows.{Follows}
+use Rattle.tile_top.specs.Loads.{Loads}
+use Rattle.tile_top.specs.LoadWords.{load_of}
+use Rattle.tile_top.specs.Tops.{IsUsage, Replays}
 use Rattle.tile_top.specs.Backtests.{Backtests}
 use Rattle.tile_top.specs.Checks.{Checks}
 use Rattle.shared_hall.specs.Cores.{tells}
+use Rattle.tile_top.proofs.Unfollowed.{alone_unfollowed, begun_unfollowed, follow_unasked, served_unfollowed}
 use Rattle.tile_top.proofs.Wanting.{front_wanting, load_unasked, load_wanting, not_alone}
 use Rattle.tile_top.proofs.tops.top.Goals as goal
 
@@ -56,6 +61,10 @@ pub returns-in-Ok-Some-clause-load : goal.returns-in-Ok-Some-clause-load
 returns-in-Ok-Some-clause-load g c = load_unasked (map string_bytes c.args.words.now) (asked_of c.in-Ok-Some.asked) (g.K.Sink.held c.args.sink.now) (g.K.Sink.held c.serve_hall.new.sink) c.serve_hall.result.status
     (ap (option_map asked_of) (sym c.in-Ok-Some.field-0-is) ∙ c.in-Ok-Some.ensures.asked)
 
+pub returns-in-Ok-Some-clause-follow : goal.returns-in-Ok-Some-clause-follow
+returns-in-Ok-Some-clause-follow g c = follow_unasked (map string_bytes c.args.words.now) _ (served_unfollowed (map string_bytes c.args.words.now) (asked_of c.in-Ok-Some.asked)
+    (ap (option_map asked_of) (sym c.in-Ok-Some.field-0-is) ∙ c.in-Ok-Some.ensures.asked))
+
 -- memory wanted for reading the words behind `serve` or `ws`
 pub returns-in-Err-clause-replay : goal.returns-in-Err-clause-replay
 returns-in-Err-clause-replay g c asked = absurd (not_alone begins_to_serve _ (codes "replay") refl c.in-Err.ensures.begun asked)
@@ -81,27 +90,25 @@ pub returns-in-Err-clause-load : goal.returns-in-Err-clause-load
 returns-in-Err-clause-load g c = load_wanting _ (g.K.Sink.held c.args.sink.now) (g.K.Sink.held c.end.new.sink) c.end.result c.without_hall.result.status c.without_hall.ensures.status c.end.ensures.told
 
 pub returns-in-Err-clause-usage : goal.returns-in-Err-clause-usage
-returns-in-Err-clause-usage g c replay check backtest serve load = inr (
+returns-in-Err-clause-usage g c replay check backtest serve load follow = inr (
   inl c.in-Err.ensures.begun,
   subst (λ (n : ℕ). IsEnd (g.K.Sink.held c.args.sink.now) (g.K.Sink.held c.end.new.sink) 7 memory_line n) (sym c.without_hall.ensures.status) c.end.ensures.told,
 )
 
--- memory wanted for reading those behind `load`
-pub returns-in-Err-load_words-clause-load : goal.returns-in-Err-load_words-clause-load
-returns-in-Err-load_words-clause-load g c =
-    let w = c.without_hall-in-Err-load_words in
-    let e = c.end-in-Err-load_words in
-    load_wanting _ (g.K.Sink.held c.args.sink.now) (g.K.Sink.held e.new.sink) e.result w.result.status w.ensures.status e.ensures.told
+pub returns-in-Err-clause-follow : goal.returns-in-Err-clause-follow
+returns-in-Err-clause-follow g c = follow_unasked (map string_bytes c.args.words.now) _ (begun_unfollowed (map string_bytes c.args.words.now) c.in-Err.ensures.begun)
 
-pub returns-in-Err-load_words-clause-usage : goal.returns-in-Err-load_words-clause-usage
-returns-in-Err-load_words-clause-usage g c replay check backtest serve load =
-    let e = c.end-in-Err-load_words in
-    inr (
-      inr c.in-Err-load_words.ensures.begun,
-      subst (λ (n : ℕ). IsEnd (g.K.Sink.held c.args.sink.now) (g.K.Sink.held e.new.sink) 7 memory_line n) (sym c.without_hall-in-Err-load_words.ensures.status) e.ensures.told,
-    )
+-- what needs no disk
+pub returns-in-Ok-None-4-clause-load : goal.returns-in-Ok-None-4-clause-load
+returns-in-Ok-None-4-clause-load g c =
+    subst (λ (n : ℕ). IfSome (load_of (map string_bytes c.args.words.now)) (λ w. Loads w (g.K.Sink.held c.args.sink.now) (g.K.Sink.held c.aside.new.sink) n)) (sym c.without_hall-in-Ok-None-4.ensures.status) c.aside.ensures.load
 
-pub returns-in-Ok-None-load_words-clause-usage : goal.returns-in-Ok-None-load_words-clause-usage
-returns-in-Ok-None-load_words-clause-usage g c replay check backtest serve load =
-    let e = c.end-in-Ok-None-load_words in
-    inl (subst (λ (n : ℕ). IsEnd (g.K.Sink.held c.args.sink.now) (g.K.Sink.held e.new.sink) 1 usage_line n) (sym c.without_hall-in-Ok-None-load_words.ensures.status) e.ensures.told)
+pub returns-in-Ok-None-4-clause-follow : goal.returns-in-Ok-None-4-clause-follow
+returns-in-Ok-None-4-clause-follow g c =
+    let a = c.aside in
+    subst (λ (n : ℕ). IfSome (follow_of (map string_bytes c.args.words.now)) (λ f. Follows f (g.L.ReadyDoor.shows c.args.door.now) (g.L.ReadyDoor.shows a.new.door) (g.W.WaitForLinks.shows c.args.wait.now) (g.W.WaitForLinks.shows a.new.wait)
+    (g.K.Sink.held c.args.sink.now) (g.K.Sink.held a.new.sink) (g.K.Sink.faults c.args.sink.now) (g.K.Sink.faults a.new.sink) n)) (sym c.without_hall-in-Ok-None-4.ensures.status) a.ensures.follow
+
+pub returns-in-Ok-None-4-clause-usage : goal.returns-in-Ok-None-4-clause-usage
+returns-in-Ok-None-4-clause-usage g c replay check backtest serve load follow =
+    subst (λ (n : ℕ). IsUsage (map string_bytes c.args.words.now) (g.K.Sink.held c.args.sink.now) (g.K.Sink.held c.aside.new.sink) n) (sym c.without_hall-in-Ok-None-4.ensures.status) (c.aside.ensures.usage load follow)

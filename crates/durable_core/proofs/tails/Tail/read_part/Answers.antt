@@ -1,7 +1,7 @@
 use Rattle.std.proofs.Common.{rules, ◌∙◌, ℕ, refl, length, take, drop, ap}
 use Rattle.std.proofs.lemmas.List.{places, with_items_is}
 use Rattle.log_sides.specs.Texts.{front_text}
-use Rattle.durable_core.proofs.Reading.{part_of, world_of}
+use Rattle.durable_core.proofs.Reading.{part_of, they_make, world_of}
 use Rattle.durable_core.proofs.Stepping.{faulted_on, read_on}
 use Rattle.durable_core.proofs.tails.Tail.read_part.Goals as goal
 
@@ -35,3 +35,9 @@ returns-in-Ok-clause-world g c j kept =
 
 pub returns-in-Ok-clause-written : goal.returns-in-Ok-clause-written
 returns-in-Ok-clause-written g c s keeps = c.in-Ok.ensures.kept s.batches s.copied keeps
+
+pub returns-in-Ok-clause-whole : goal.returns-in-Ok-clause-whole
+returns-in-Ok-clause-whole g c j s kept keeps = let D = g.D.Disk in they_make D.crashes D.seen D.images c.args.self.now j s c.requires.latest kept keeps
+
+pub returns-in-Err-clause-whole : goal.returns-in-Err-clause-whole
+returns-in-Err-clause-whole g c j s kept keeps = let D = g.D.Disk in they_make D.crashes D.seen D.images c.args.self.now j s c.requires.latest kept keeps

@@ -1,6 +1,6 @@
 use Rattle.shared_hall.specs.Seats.{first_writing, handed_of}
 use Rattle.shared_hall.proofs.AnswerKinds.{retired_out}
-use Rattle.shared_hall.proofs.Retiring.{retired, given_once, given_counted, given_generation, given_safe, given_stands}
+use Rattle.shared_hall.proofs.Retiring.{retired, given_once, given_counted, given_feeds, given_generation, given_safe, given_stands}
 use Rattle.shared_hall.proofs.halls.SharedHall.retire.Goals as goal
 
 pub returns-clause-entry : goal.returns-clause-entry
@@ -20,6 +20,9 @@ returns-clause-stands g c = let m = g.D.Disk in given_stands m.crashes m.seen m.
 
 pub returns-clause-generation : goal.returns-clause-generation
 returns-clause-generation g c = let m = g.D.Disk in given_generation m.crashes m.seen m.images m.moment m.left_since m.faults (handed_of c.args.self.now) (first_writing c.args.self.now) c.turn.result _ _ _ c.in-Retired.is c.turn.ensures.done
+
+pub returns-clause-feeds : goal.returns-clause-feeds
+returns-clause-feeds g c = let m = g.D.Disk in given_feeds m.crashes m.seen m.images m.moment m.left_since m.faults (handed_of c.args.self.now) (first_writing c.args.self.now) c.turn.result _ _ _ c.in-Retired.is c.turn.ensures.done
 
 pub unreachable-requires : goal.unreachable-requires
 unreachable-requires g c = let m = g.D.Disk in let k = retired_out m.crashes m.seen m.images m.moment m.left_since m.faults (handed_of c.args.self.now) (first_writing c.args.self.now) _ _ _ c.turn.ensures.done in c.in_default.not-Retired k.0 k.1

@@ -7,6 +7,7 @@ use Rattle.durable_core.specs.Logged.{hall_of}
 use Rattle.log_record.specs.AnswerLaws.{call_failed}
 use Rattle.shared_hall.proofs.Acting.{does_inside, does_nothing, hall_inside}
 use Rattle.durable_core.specs.HistoryLaws.{writing_is}
+use Rattle.shared_hall.proofs.Growing.{fed_mirrored}
 use Rattle.shared_hall.proofs.places.HallCore.call.Goals as goal
 
 pub call-requires-clause-room : goal.call-requires-clause-room
@@ -18,7 +19,7 @@ returns-in-Inside-clause-named g c = let m = g.D.Disk in subst (λ (h : Hall). N
 pub returns-in-Inside-clause-act : goal.returns-in-Inside-clause-act
 returns-in-Inside-clause-act g c = let m = g.D.Disk in let e = c.call.ensures in
     does_inside m.crashes m.seen m.images m.moment m.left_since m.faults c.args.self.now.place c.begin.new.self.place c.in-Inside.core c.call.new.self (event.Call c.args.session c.args.moment c.args.asked.now) (outcome.Answered c.call.result) c.begin.ensures.place c.in-Inside.is
-    refl e.step (λ _. writing_is c.call.new.self _ _ e.rewriting e.generation) (λ is. e.cause (call_failed c.call.result is)) e.later e.told e.log
+    refl e.step (λ _. writing_is c.call.new.self _ _ e.rewriting e.generation) (λ is. e.cause (call_failed c.call.result is)) e.later e.told e.log (fed_mirrored m.crashes m.seen m.images c.in-Inside.core c.call.new.self e.generation e.written)
 
 pub returns-in-Out-clause-act : goal.returns-in-Out-clause-act
 returns-in-Out-clause-act g c = let m = g.D.Disk in
