@@ -1,6 +1,6 @@
 #!/usr/bin/env bash
 # Refuses memory: of each script one allocation after another fails, in a run of its own, until a run makes fewer of them.
-# Scripts of `refused_trials`, told to play once, print the same whatever is refused; the program compares the core with another one where a call
+# Scripts of `fault_trials`, told to play once, print the same whatever is refused; the program compares the core with another one where a call
 # wanted memory. Scripts of `replay` end with status 7 and a beginning of their output, or as if nothing was refused; behind that the
 # folder opens, and the world that is in it is one that the script comes through, not before what was acknowledged.
 # Usage: bench/refused.sh [SCRIPT ..]   scripts of `replay`; examples/first.script and examples/fences.script if left out.
@@ -8,14 +8,14 @@ set -eu
 cd "$(dirname "$0")/.."
 here=$PWD
 server=$here/crates/tile_server/out/tile_server
-trials=$here/crates/refused_trials/out/refused_trials
+trials=$here/crates/fault_trials/out/fault_trials
 work=$(mktemp -d)
 trap 'rm -rf "$work"' EXIT
 [ $# -gt 0 ] || set -- examples/first.script examples/fences.script
 
 # Builds the programs where they are older than their sources.
 ./fudrask load 1 1 >/dev/null
-[ -x "$trials" ] || (cd crates/refused_trials && rt run </dev/null >/dev/null)
+[ -x "$trials" ] || (cd crates/fault_trials && rt run </dev/null >/dev/null)
 
 # The REFUSED-th call that takes memory fails, and tells so on descriptor 9.
 cat >"$work/refuse.c" <<'END'
@@ -52,11 +52,11 @@ differs() {
     echo "  differs: $*"
 }
 
-# The scripts of `refused_trials`, each in a file that says to play it once.
+# The scripts of `fault_trials`, each in a file that says to play it once.
 split_trials() {
     awk -v work="$work" '
         /^script / { file = work "/trial" ++n; print "once" >file }
-        n { print >file }' crates/refused_trials/stdin
+        n { print >file }' crates/fault_trials/stdin
 }
 
 try_trial() {

@@ -19,8 +19,9 @@ use Rattle.world_model.specs.declared.events.Outcome.{Outcome}
 use Rattle.world_model.specs.declared.events.Outcome.TheVariants.{Answered}
 use Rattle.outside.specs.Sides.{Sides, IfTold}
 use Rattle.outside.specs.CrashLaws.{begins, if_told}
-use Rattle.outside.specs.Crashes.{EachImage}
+use Rattle.outside.specs.Crashes.{EachImage, LeavesOnly}
 use Rattle.journal.specs.Journals.{Keeps, pending}
+use Rattle.journal.specs.Logs.{HasGrown}
 use Rattle.journal.specs.Openings.{AreWhole}
 use Rattle.journal.specs.declared.journals.Journal.{Journal}
 use Rattle.journal.specs.KeptLaws.{kept_told, kept_now, kept_images}
@@ -38,11 +39,12 @@ use Rattle.world_recovery.specs.Recorded.{record_fault, world_in}
 use Rattle.world_recovery.specs.BatchesHeld.{held_recovers}
 use Rattle.tile_core.specs.RecordSinks.{IsRecordedBy}
 use Rattle.durable_core.specs.Kept.{IsKeptBy, HasPending, HasPushed, LeadsTo}
-use Rattle.durable_core.specs.Logged.{hall_of, disk_of, IsLogOf, KeepsLogOf, Owes, GoesOn}
+use Rattle.durable_core.specs.Logged.{generation_of, hall_of, disk_of, IsLogOf, KeepsLogOf, Owes, GoesOn}
 use Rattle.durable_core.specs.StepLaws.{does, lacks, same_hall, stops}
 use Rattle.durable_core.specs.declared.cores.DurableCore.{DurableCore}
 use Rattle.durable_core.specs.Rewriting.{IsCopyWhile}
 use Rattle.durable_core.specs.Steps.{IsEnded, ended}
+use Rattle.durable_core.specs.Written.{KeepsSided, Sided}
 use Rattle.durable_core.specs.declared.rewritings.Rewriting.{Rewriting}
 use Rattle.durable_core.specs.declared.tails.Tail.{Tail}
 
@@ -112,6 +114,15 @@ module _ {D : Type 0} (crashes : D → Bool) (seen : D → Option Sides) (images
       let turn : log.Turn images moment left_since disk disk h before event outcome next before = record { stopped = λ _. refl; leaves = λ going. absurd (cc); durable = λ going. absurd (cc); logs = λ going. absurd (cc); shown = λ shows. absurd (cc) } in
       record { turn = turn; safe = turn_keeps_safe images moment left_since disk disk h next before before event outcome (tells disk) (tells disk) step turn }
 
+  -- a core left no log on this disk that did not grow from its own
+  abbrev LeavesGrown : DurableCore D → D → Type 0
+  LeavesGrown old disk = crashes (disk_of old) ≡ true → (s : Sided) → KeepsSided crashes seen images old.tail.journal s
+      → LeavesOnly moment left_since (disk_of old) disk (HasGrown (generation_of old) s.batches)
+
+  -- on its own it left none
+  none_left : (core : DurableCore D) → LeavesGrown core (disk_of core)
+  none_left core crash s keeps = begins moment left_since (disk_of core) (HasGrown (generation_of core) s.batches)
+
   -- a call of a core: its journal keeps the log with what the call made, and where frames are given nothing is pending
   pub goes : (old new : DurableCore D) (event : Event) (outcome : Outcome) (before after : log.Journal) → (hall_of old).stopped ≡ false → Step (hall_of old) event outcome (hall_of new)
       → IsLogOf crashes seen images old before → crashes (disk_of new) ≡ crashes (disk_of old)
@@ -119,8 +130,9 @@ module _ {D : Type 0} (crashes : D → Bool) (seen : D → Option Sides) (images
       → ((hall_of new).stopped ≡ false → IsKeptBy crashes seen images new.tail after)
       → ((hall_of new).stopped ≡ false → log.whole after ≡ folded (log.whole before) (changes_of (writes_by (hall_of old) event outcome)))
       → (log.shows event outcome ≡ true → ((hall_of new).stopped ≡ false) × (after.pending ≡ []))
+      → LeavesGrown old (disk_of new)
       → GoesOn crashes seen images moment left_since old new event outcome before
-  goes old new event outcome before after going step of told leaves kept made shown =
+  goes old new event outcome before after going step of told leaves kept made shown grown =
       let world : (hall_of new).stopped ≡ false → (hall_of new).world ≡ log.whole after = λ on.
       (steps_make_their_writes (hall_of old) (hall_of new) event outcome step).world ∙ ap (λ (w : World). folded w (changes_of (writes_by (hall_of old) event outcome))) of.world ∙ sym (made on) in
       let committed : (hall_of new).stopped ≡ false → after.pending ≡ [] → after.committed ≡ (hall_of new).world = λ on none.
@@ -132,6 +144,7 @@ module _ {D : Type 0} (crashes : D → Bool) (seen : D → Option Sides) (images
             let durable_then : (hall_of new).stopped ≡ false → log.IsDurable (images (disk_of new)) after = λ on. durable crashes seen images as_read new.tail after (kept on) (told ∙ crash) in
             owes (disk_of old) (disk_of new) (hall_of old) (hall_of new) event outcome before after going step (leaves crash) durable_then made
             (λ shows c image. let on = shown shows in subst (λ (w : World). Recovers c w) (committed on.0 on.1) ((durable_then on.0).each c image));
+        leaves_grown = grown;
       }
 
   -- a call of a core that has stopped
@@ -140,6 +153,7 @@ module _ {D : Type 0} (crashes : D → Bool) (seen : D → Option Sides) (images
     after = before;
     log = λ going. absurd (cc);
     owes = λ crash. owes_nothing (disk_of core) (hall_of core) (hall_of core) event (when_stopped event) before is is (stops (hall_of core) event is) (stopped_says event).not_shown;
+    leaves_grown = none_left core;
   }
 
   -- a call that leaves the journal alone, and makes no change
@@ -152,6 +166,7 @@ module _ {D : Type 0} (crashes : D → Bool) (seen : D → Option Sides) (images
       (λ _. subst (λ (t : Tail D). IsKeptBy crashes seen images t before) (sym same) (keeps going).kept)
       (λ _. sym (ap (folded (log.whole before)) (makes_none (hall_of old) event outcome none)))
       (λ shows. absurd (cc))
+      (subst (λ (t : Tail D). LeavesGrown old t.journal.disk) (sym same) (none_left old))
 
   -- a call that the disk failed
   pub faulted : {E : Type 0} (fault : E) (old new : DurableCore D) (event : Event) (outcome : Outcome) (before k : log.Journal) → (hall_of old).stopped ≡ false → (hall_of new).stopped ≡ true
@@ -159,7 +174,7 @@ module _ {D : Type 0} (crashes : D → Bool) (seen : D → Option Sides) (images
       → LeadsTo crashes seen images moment left_since old.tail new.tail (Err fault) before k → log.shows event outcome ≡ false
       → GoesOn crashes seen images moment left_since old new event outcome before
   faulted fault old new event outcome before k going failed step keeps told leads hidden =
-      goes old new event outcome before k going step (keeps going) told leads.leaves (λ on. absurd (cc)) (λ on. absurd (cc)) (λ shows. absurd (cc))
+      goes old new event outcome before k going step (keeps going) told leads.leaves (λ on. absurd (cc)) (λ on. absurd (cc)) (λ shows. absurd (cc)) leads.leaves_grown
 
   -- a call that commits and makes no change
   pub settles : {E : Type 0} (old new : DurableCore D) (event : Event) (outcome : Outcome) (before : log.Journal) → (hall_of old).stopped ≡ false → (hall_of new).stopped ≡ false
@@ -168,7 +183,7 @@ module _ {D : Type 0} (crashes : D → Bool) (seen : D → Option Sides) (images
       → GoesOn crashes seen images moment left_since old new event outcome before
   settles old new event outcome before going on step keeps told leads none =
       goes old new event outcome before (log.settled before) going step (keeps going) told leads.leaves (λ _. leads.kept)
-      (λ _. sym (ap (folded (log.whole before)) (makes_none (hall_of old) event outcome none))) (λ _. (on, refl))
+      (λ _. sym (ap (folded (log.whole before)) (makes_none (hall_of old) event outcome none))) (λ _. (on, refl)) leads.leaves_grown
 
   -- records that were pushed behind a log
   pub pushed : (mid new : Tail D) (k : log.Journal) (changes : List Change) → IsKeptBy crashes seen images mid k
@@ -241,6 +256,7 @@ module _ {D : Type 0} (crashes : D → Bool) (seen : D → Option Sides) (images
       (λ _. turned late new.tail (record k { pending = k.pending ++ changes }) same copies (pushed mid late k changes leads.kept took.0 took.1))
       (λ _. folded-append k.committed k.pending changes ∙ ap (λ (w : World). folded w changes) leads.same)
       (λ shows. absurd (cc))
+      (subst (LeavesGrown old) (sym disk) leads.leaves_grown)
 
   -- a step of a rewriting
   pub stepped : (old new : DurableCore D) (answer : CallOutcome) (before : log.Journal) → (hall_of old).stopped ≡ false → answer ≢ called.LogFault → IsEnded answer → hall_of new ≡ hall_of old
@@ -267,4 +283,5 @@ module _ {D : Type 0} (crashes : D → Bool) (seen : D → Option Sides) (images
     log = λ on. absurd (cc);
     owes = λ crash. owes (disk_of old) (disk_of new) (hall_of old) (hall_of new) Retire (answer called.Ok) before (log.settled before) going step (leads.leaves crash) (λ on. absurd (cc)) (λ on. absurd (cc))
         (λ _ c image. subst (λ (w : World). Recovers c w) (sym (same ∙ (keeps going).world)) ((durable crashes seen images as_read new.tail (log.settled before) leads.kept (told ∙ crash)).each c image));
+    leaves_grown = leads.leaves_grown;
   }

@@ -8,13 +8,17 @@ use Rattle.world_model.specs.declared.events.CallOutcome.{CallOutcome}
 use Rattle.world_model.specs.declared.events.CallOutcome.TheVariants as called
 use Rattle.outside.specs.Sides.{Sides}
 use Rattle.outside.specs.CrashLaws.{begins}
+use Rattle.outside.specs.Crashes.{LeavesOnly}
 use Rattle.log_sides.specs.Texts.{newest}
+use Rattle.journal.specs.Growing.{grows_none}
+use Rattle.journal.specs.Logs.{HasGrown}
 use Rattle.log_record.specs.Journals as log
 use Rattle.log_record.specs.Recovery.{RecoversEither}
 use Rattle.durable_core.specs.Kept.{IsKeptBy, LeadsTo, settled_log}
 use Rattle.durable_core.specs.Rewriting.{Shown, idle, asked, going, is_ending, is_idle, next_shown, shown_by, steps_left}
 use Rattle.durable_core.specs.Steps.{IsEnded, next_generation, next_version}
 use Rattle.durable_core.specs.Upgrading.{IsUnderway, upgraded}
+use Rattle.durable_core.specs.Written.{KeepsGrown}
 use Rattle.durable_core.specs.declared.rewritings.Rewriting.{Rewriting}
 use Rattle.durable_core.specs.declared.rewritings.Rewriting.TheVariants as rewriting
 use Rattle.durable_core.specs.declared.tails.Tail.{Tail}
@@ -84,4 +88,8 @@ module _ {D E : Type 0} (crashes : D → Bool) (seen : D → Option Sides) (imag
     same = refl;
     leaves = λ told. subst (λ k. log.Leaves moment left_since old.journal.disk k.disk (settled_log w)) (sym same) (begins moment left_since old.journal.disk (RecoversEither w w));
     kept = kept;
+    leaves_grown = λ told s k. subst (λ n. LeavesOnly moment left_since old.journal.disk n.disk (HasGrown old.journal.log.generation s.batches)) (sym same)
+        (begins moment left_since old.journal.disk (HasGrown old.journal.log.generation s.batches));
+    grown = λ s k. subst (λ n. KeepsGrown crashes seen images n old.journal.log.generation s.batches) (sym same)
+        (record { sides = s; keeps = k; grows = grows_none old.journal.log.generation s.batches });
   }

@@ -1,14 +1,16 @@
 -- The world of a log is sound, and a core over it has a log and stands at an opening.
-use Rattle.std.proofs.Common.{◌≡◌, ◌⊎◌, ◌∙◌, ◌≤◌, ◌<◌, ◌&&◌, ℕ, Bool, true, false, List, [], ◌∷◌, Option, Some, refl, sym, ap, subst, inl, inr, ⊎_elim, arith}
+use Rattle.std.proofs.Common.{◌≡◌, ◌⊎◌, ◌∙◌, ◌≤◌, ◌<◌, ◌&&◌, ℕ, Bool, true, false, List, [], ◌∷◌, Option, Some, Result, refl, sym, ap, subst, inl, inr, ⊎_elim, arith}
 use Rattle.std.proofs.Math.Nat.{eq-or-lt_of_le}
 use Rattle.std.specs.List.{AllByRecursion, list_all}
 use Rattle.std.proofs.lemmas.Bool.{and_from}
 use Rattle.byte_text.specs.Names.{Bytes, is_name}
 use Rattle.outside.specs.Sides.{Sides, IfTold}
-use Rattle.outside.specs.Crashes.{LeavesOnly}
+use Rattle.outside.specs.Crashes.{EachImage, LeavesOnly}
 use Rattle.outside.specs.CrashLaws.{since_carries, then, weaker}
 use Rattle.log_sides.specs.Texts.{newest}
-use Rattle.journal.specs.Openings.{IsLeftByOpening, opened_version}
+use Rattle.journal.specs.Growing.{grown_on, grown_opened}
+use Rattle.journal.specs.Logs.{Grows, HasGrown}
+use Rattle.journal.specs.Openings.{IsLeftByOpening, opened_generation, opened_version}
 use Rattle.world_data.specs.Filters.{are_fields}
 use Rattle.world_data.specs.Records.{record_reader, is_kept_deadline, is_kept_field}
 use Rattle.world_data.specs.Sound.{IsSoundObject, IsSoundWorld, is_sound_channel}
@@ -33,7 +35,7 @@ use Rattle.log_record.specs.TurnLaws.{openings_stand}
 use Rattle.log_record.specs.Words.{IsRecorded}
 use Rattle.world_recovery.specs.Recorded.{record_fault, world_in}
 use Rattle.world_recovery.specs.Opened.{IsOpened, AreRecorded, RecoversSince}
-use Rattle.durable_core.specs.Kept.{IsKeptBy, settled_log}
+use Rattle.durable_core.specs.Kept.{IsKeptBy, LeadsTo, settled_log}
 use Rattle.durable_core.specs.Logged.{hall_of, disk_of}
 use Rattle.durable_core.specs.Opened.{IsHalfRewritten, IsLeftByStart, IsOpening, ReadsAlike, WasRead}
 use Rattle.durable_core.specs.StepLaws.{same_hall}
@@ -107,6 +109,7 @@ module _ {D : Type 0} (crashes : D → Bool) (seen : D → Option Sides) (images
       batches = opened.batches;
       whole = opened.whole;
       world_is = opened.world_is;
+      holds = opened.holds;
       keeps = λ s told. tt;
       recovers = opened.recovers;
       since = λ s told crash. since_on v kept opened s told crash (leaves s told crash);
@@ -126,6 +129,25 @@ module _ {D : Type 0} (crashes : D → Bool) (seen : D → Option Sides) (images
       by_version (inr less) = then moment left_since old mid new (IsLeftByStart (images old) s) begun
           (weaker moment left_since mid new (RecoversEither w w) (IsLeftByStart (images old) s) (λ c either. inr (subst (λ (k : ℕ). k < newest) version less, (w, before, one_of_both c either))) leaves)
 
+  -- nor does it leave one that did not grow from what the log of the disk grew from
+  pub start_grown : (s : Sides) (before : ℕ) (earlier : List Bytes) → HasGrown before earlier s → EachImage (images old) (HasGrown before earlier)
+      → LeavesOnly moment left_since old mid (IsLeftByOpening (images old) s) → LeavesOnly moment left_since mid new (HasGrown before earlier)
+      → LeavesOnly moment left_since old new (HasGrown before earlier)
+  start_grown s before earlier has each opened leaves =
+      then moment left_since old mid new (HasGrown before earlier)
+      (weaker moment left_since old mid (IsLeftByOpening (images old) s) (HasGrown before earlier) (λ c left. by c left) opened) leaves
+    where
+      by : (c : Sides) → IsLeftByOpening (images old) s c → HasGrown before earlier c
+      by c (inl image) = each c image
+      by c (inr fresh) = let used = has.holds.1.used in let none = fresh.0 in absurd (cc)
+
+-- a journal that was opened keeps batches that grew from what the log of the disk grew from
+pub opened_grows : {D : Type 0} (crashes : D → Bool) (seen : D → Option Sides) (moment : D → ℕ) (left_since : D → ℕ → Sides → Type 0) (kept : List Bytes → Type 0) (old : D) (k : Journal D) (w : World) (s : Sides)
+    → (opened : IsOpened crashes seen moment left_since old k.disk w k.log.version kept) → seen old ≡ Some s → k.log.generation ≡ opened_generation s
+    → (before : ℕ) (earlier : List Bytes) → HasGrown before earlier s → Grows before k.log.generation earlier opened.batches
+opened_grows crashes seen moment left_since kept old k w s opened told generation before earlier has =
+    subst (λ (n : ℕ). Grows before n earlier opened.batches) (sym generation) (grown_opened s k.log.version before opened.batches earlier (opened.holds s told) has)
+
 -- the disks of which is spoken, with their laws
 module _ {D : Type 0} (crashes : D → Bool) (seen : D → Option Sides) (images : D → Sides → Type 0) (moment : D → ℕ) (left_since : D → ℕ → Sides → Type 0)
     (as_read : (disk : D) → IfTold (seen disk) (images disk)) where
@@ -142,6 +164,19 @@ module _ {D : Type 0} (crashes : D → Bool) (seen : D → Option Sides) (images
     recorded = tt;
     copies = subst (λ (r : Rewriting). IsCopyWhile r t.journal.log.version [] opened.batches) (sym idle) tt;
   }
+
+  -- and a step behind an opening that leads on from it leaves none that did not grow so
+  pub opened_leaves : {E : Type 0} (old : D) (t new : Tail D) (w : World) (s : Sides) (r : Result Unit E)
+      → (opened : IsOpened crashes seen moment left_since old t.journal.disk w t.journal.log.version (λ batches. Keeps crashes seen images t.journal batches []))
+      → seen old ≡ Some s → t.journal.log.generation ≡ opened_generation s → crashes t.journal.disk ≡ true
+      → LeadsTo crashes seen images moment left_since t new r (settled_log w) (settled_log w)
+      → (before : ℕ) (earlier : List Bytes) → HasGrown before earlier s → LeavesOnly moment left_since t.journal.disk new.journal.disk (HasGrown before earlier)
+  opened_leaves old t new w s r opened told generation crash leads before earlier has =
+      let k = t.journal in
+      let grows = opened_grows crashes seen moment left_since (λ batches. Keeps crashes seen images k batches []) old k w s opened told generation before earlier has in
+      weaker moment left_since k.disk new.journal.disk (HasGrown k.log.generation opened.batches) (HasGrown before earlier)
+      (λ c grown. grown_on before k.log.generation earlier opened.batches c grows grown)
+      (leads.leaves_grown crash (record { batches = opened.batches; copied = [] }) (opened.keeps s told))
 
   -- and all stands at its opening
   pub is_opening : (old : D) (c : DurableCore D) (count : ℕ) → RecoversSince moment left_since old (disk_of c) (hall_of c).world

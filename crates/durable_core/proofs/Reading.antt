@@ -68,7 +68,7 @@ keeps_once crashes seen images k bs xs cs ys one two =
     let too = there.told in
     let same : here.contents ≡ there.contents = cc in
     stands_once k.log.version k.log.generation bs cs (side_of there.contents k.log.side)
-        (subst (λ (x : Sides). StandsFor k.log.version k.log.generation bs (side_of x k.log.side)) same here.has) there.has
+    (subst (λ (x : Sides). StandsFor k.log.version k.log.generation bs (side_of x k.log.side)) same here.has) there.has
 
 -- so they are the ones that make the committed world
 pub they_make : {D : Type 0} (crashes : D → Bool) (seen : D → Option Sides) (images : D → Sides → Type 0) (t : Tail D) (j : log.Journal) (s : Sided) → t.journal.log.version ≡ newest → IsKeptBy crashes seen images t j

@@ -3,11 +3,14 @@ use Rattle.std.specs.Prelude.{◌≡◌, ℕ, Bool, true, false, Option}
 use Rattle.world_model.specs.Halls.{Hall}
 use Rattle.world_model.specs.declared.events.Event.{Event}
 use Rattle.world_model.specs.declared.events.Outcome.{Outcome}
+use Rattle.outside.specs.Crashes.{LeavesOnly}
 use Rattle.outside.specs.Sides.{Sides}
+use Rattle.journal.specs.Logs.{HasGrown}
 use Rattle.log_record.specs.Journals.{Journal, Turn, whole}
 use Rattle.log_record.specs.Laws.{KeepsSafe}
 use Rattle.durable_core.specs.Kept.{IsKeptBy}
 use Rattle.durable_core.specs.Rewriting.{Shown, shown_by}
+use Rattle.durable_core.specs.Written.{KeepsSided, Sided}
 use Rattle.durable_core.specs.declared.cores.DurableCore.{DurableCore}
 
 -- the hall of a core, which stops where the disk fails, and where the core is retired
@@ -43,10 +46,13 @@ pub record Owes {D : Type 0} (images : D → Sides → Type 0) (moment : D → �
   pub turn : Turn images moment left_since old new h before event outcome next after
   pub safe : KeepsSafe images moment left_since old new h before event outcome next after
 
--- over a call of a core its log goes on from one to another, and where the disk tells crashes the call did to it what it owes
+-- over a call of a core its log goes on from one to another, and where the disk tells crashes the call did to it what it owes, and at no moment
+-- left a log that did not grow from the one before
 pub record GoesOn {D : Type 0} (crashes : D → Bool) (seen : D → Option Sides) (images : D → Sides → Type 0) (moment : D → ℕ) (left_since : D → ℕ
     → Sides → Type 0) (old new : DurableCore D) (event : Event) (outcome : Outcome) (before : Journal) : Type 0 where
   pub after : Journal
   pub log : KeepsLogOf crashes seen images new after
   pub owes : crashes (disk_of old) ≡ true
       → Owes images moment left_since (disk_of old) (disk_of new) (hall_of old) event outcome (hall_of new) before after
+  pub leaves_grown : crashes (disk_of old) ≡ true → (s : Sided) → KeepsSided crashes seen images old.tail.journal s
+      → LeavesOnly moment left_since (disk_of old) (disk_of new) (HasGrown (generation_of old) s.batches)

@@ -5,6 +5,7 @@ use Rattle.world_data.specs.declared.worlds.World.{World}
 use Rattle.outside.specs.Sides.{Sides}
 use Rattle.log_sides.specs.Texts.{committed}
 use Rattle.journal.specs.Journals.{Keeps, pending}
+use Rattle.journal.specs.Logs.{Grows}
 use Rattle.journal.specs.declared.journals.Journal.{Journal}
 use Rattle.log_record.specs.Batches.{records_text}
 use Rattle.durable_core.specs.Rewriting.{Item, changes_of, items_left}
@@ -39,6 +40,13 @@ sided_next (rewriting.Going last) w s = sided_on (items_left last w) s
 -- a journal keeps these batches
 abbrev pub KeepsSided : {D : Type 0} → (D → Bool) → (D → Option Sides) → (D → Sides → Type 0) → Journal D → Sided → Type 0
 KeepsSided crashes seen images k s = Keeps crashes seen images k s.batches s.copied
+
+-- a journal keeps batches that grew from these of this generation
+pub record KeepsGrown {D : Type 0} (crashes : D → Bool) (seen : D → Option Sides) (images : D → Sides → Type 0) (k : Journal D) (generation : ℕ)
+    (earlier : List Bytes) : Type 0 where
+  pub sides : Sided
+  pub keeps : KeepsSided crashes seen images k sides
+  pub grows : Grows generation k.log.generation earlier sides.batches
 
 -- from one journal to another nothing was written, or what was pending, on both sides
 abbrev pub IsMirrored : {D : Type 0} → (D → Bool) → (D → Option Sides) → (D → Sides → Type 0) → Journal D → Journal D → Type 0

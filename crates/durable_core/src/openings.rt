@@ -1,13 +1,15 @@
 //! The opening of a core: the world of a disk's log, and the log's end.
 
-ghost use Rattle.std.specs.Prelude.{◌≡◌, ◌≤◌, ◌^◌, ℕ, true, Some, IfOk, IfErr};
+ghost use Rattle.std.specs.Prelude.{◌≡◌, ◌≤◌, ◌^◌, ℕ, List, true, Some, IfOk, IfErr};
+ghost use Rattle.byte_text.specs.Names.{Bytes};
 ghost use Rattle.outside.specs.Causes.{Rose};
-ghost use Rattle.outside.specs.Crashes.{LeavesOnly};
+ghost use Rattle.outside.specs.Crashes.{EachImage, LeavesOnly};
 ghost use Rattle.outside.specs.Sides.{Sides};
 ghost use Rattle.outside.specs.declared.sides.Side.{Side};
 ghost use Rattle.world_data.specs.Sound.{IsSoundWorld};
 ghost use Rattle.world_model.specs.Histories.{opening_hall};
 ghost use Rattle.log_sides.specs.Texts.{newest};
+ghost use Rattle.journal.specs.Logs.{HasGrown};
 ghost use Rattle.journal.specs.Openings.{opened_generation, opened_len, opened_version};
 ghost use Rattle.journal.specs.declared.openings.OpenFault.TheVariants as fault_of;
 ghost use Rattle.log_record.specs.Readings.{Damaged};
@@ -17,6 +19,7 @@ ghost use Rattle.durable_core.specs.Logged.{IsLogOf, disk_of, generation_of, hal
 ghost use Rattle.durable_core.specs.declared.rewritings.Rewriting.TheVariants as rewriting;
 ghost use Rattle.durable_core.specs.Opened.{IsHandedBack, IsLeftByStart, IsOpening, WasRead, left_disk};
 ghost use Rattle.durable_core.specs.Upgrading.{upgraded};
+ghost use Rattle.durable_core.specs.Written.{KeepsGrown};
 
 use crate::cores::DurableCore;
 use crate::rewritings::Rewriting;
@@ -32,7 +35,7 @@ impl<D: Disk> DurableCore<D> {
     /// A core over the world of a disk, without sessions, at moment 0: both sides of the disk are synced, and the
     /// records of the side in use are folded. On a fresh disk a log is begun, and the world is empty. A log of an older
     /// version is rewritten first, as a log of the newest one and of the next generation: at each moment a crash leaves
-    /// a log of the same world. Damaged comes only where the sides are damaged, with their first cause and its place.
+    /// a log of the same world, and one that grew from whatever the disk's grew from; so did the core's. Damaged comes only where the sides are damaged, with their first cause and its place.
     /// Else the disk is handed back for want of memory, or where it failed.
     pub fn open(alloc: Global, disk: D) -> Result<DurableCore<D>, Unopened<D>>
         ensures hall { IfOk result (λ c. hall_of c ≡ opening_hall (hall_of c).world (hall_of c).logged) }
@@ -48,6 +51,10 @@ impl<D: Disk> DurableCore<D> {
         ensures version { IfOk result (λ c. version_of c ≡ newest) }
         ensures generation { (s : Sides) → D.seen disk ≡ Some s
             → IfOk result (λ c. generation_of c ≡ upgraded (opened_version s) (opened_generation s)) }
+        ensures grown { (s : Sides) → D.seen disk ≡ Some s
+            → IfOk result
+            (λ c. (before : ℕ) (earlier : List Bytes) → HasGrown before earlier s
+            → KeepsGrown D.crashes D.seen D.images c.tail.journal before earlier) }
         ensures len { (s : Sides) → D.seen disk ≡ Some s → IfOk result (λ c. (hall_of c).logged ≡ opened_len s) }
         ensures short { IfOk result (λ c. (hall_of c).logged ≤ 2 ^ 62) }
         ensures damaged { (s : Sides) → D.seen disk ≡ Some s
@@ -57,6 +64,10 @@ impl<D: Disk> DurableCore<D> {
             → IfOk result (λ _. (side : Side) (place : ℕ) → Damaged s side place → ⊥) }
         ensures leaves { (s : Sides) → D.seen disk ≡ Some s → D.crashes disk ≡ true
             → LeavesOnly D.moment D.left_since disk (left_disk result) (IsLeftByStart (D.images disk) s) }
+        ensures leaves_grown { (s : Sides) → D.seen disk ≡ Some s → D.crashes disk ≡ true
+            → (before : ℕ) (earlier : List Bytes) → HasGrown before earlier s
+            → EachImage (D.images disk) (HasGrown before earlier)
+            → LeavesOnly D.moment D.left_since disk (left_disk result) (HasGrown before earlier) }
         ensures same { (s : Sides) → D.seen disk ≡ Some s
             → IfErr result (λ u. IsHandedBack (D.crashes u.disk) (D.seen u.disk) (D.images u.disk) s u.why) }
         ensures told { D.crashes (left_disk result) ≡ D.crashes disk }

@@ -9,10 +9,10 @@ use Rattle.log_sides.specs.States.{IsHeld}
 use Rattle.log_sides.specs.Making.{IsShut}
 use Rattle.log_sides.specs.Crashing.{safe_held}
 use Rattle.log_rewrite.specs.declared.rewriters.Rewriter.{Rewriter}
-use Rattle.journal.specs.Logs.{IsBehind, HoldsLog}
+use Rattle.journal.specs.Logs.{IsBehind, HoldsLog, HoldsOf}
 use Rattle.journal.specs.Keeping.{IsBeside, IsKept}
 use Rattle.journal.specs.Openings.{first_generation, opened_generation}
-use Rattle.journal.specs.Standing.{holds, shut_behind, stands_in}
+use Rattle.journal.specs.Standing.{holds, holds_of, of_any, shut_behind, stands_in}
 
 -- what stands beside the side in use leaves it in use, whatever a crash leaves
 pub beside_holds : (crashes : Bool) (seen : Option Sides) (images : Sides → Type 0) (side : Side) (g : ℕ) (r : Option Rewriter) (copied : List Bytes)
@@ -50,14 +50,20 @@ kept_now crashes seen images side v g gate r batches copied kept s told =
     holds s side v g batches (subst (λ (x : Sides). StandsFor v g batches (side_of x side)) used safe.has)
     (subst (λ (x : Sides). IsBehind g (side_of x (other_side side))) beside held.now.has)
 
--- and so does whatever a crash may leave
+-- and so does whatever a crash may leave, in a log of this generation
+pub kept_left : (crashes : Bool) (seen : Option Sides) (images : Sides
+    → Type 0) (side : Side) (v g gate : ℕ) (r : Option Rewriter) (batches copied : List Bytes)
+    → IsKept crashes seen images side v g gate r batches copied → crashes ≡ true → EachImage images (HoldsOf v g batches)
+kept_left crashes seen images side v g gate r batches copied kept told c image =
+    let safe = kept.log.safe in
+    holds_of c side v g batches (subst (StandsFor v g batches) (sym (safe.settled told c image)) safe.has)
+    ((beside_holds crashes seen images side g r copied kept.beside).each told c image)
+
 pub kept_images : (crashes : Bool) (seen : Option Sides) (images : Sides
     → Type 0) (side : Side) (v g gate : ℕ) (r : Option Rewriter) (batches copied : List Bytes)
     → IsKept crashes seen images side v g gate r batches copied → crashes ≡ true → EachImage images (HoldsLog v batches)
 kept_images crashes seen images side v g gate r batches copied kept told c image =
-    let safe = kept.log.safe in
-    holds c side v g batches (subst (StandsFor v g batches) (sym (safe.settled told c image)) safe.has)
-    ((beside_holds crashes seen images side g r copied kept.beside).each told c image)
+    of_any c v g batches (kept_left crashes seen images side v g gate r batches copied kept told c image)
 
 -- of a log of the journal's generation
 pub kept_generation : (crashes : Bool) (seen : Option Sides) (images : Sides

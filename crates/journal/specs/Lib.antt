@@ -8,3 +8,4 @@ pub mod Replaying
 pub mod Opened
 pub mod Journals
 pub mod Reads
+pub mod Growing

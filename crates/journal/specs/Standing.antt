@@ -18,7 +18,7 @@ use Rattle.append_log.specs.Logs.{StandsIn}
 use Rattle.append_log.specs.declared.side_heads.Head.{Head}
 use Rattle.append_log.specs.declared.side_heads.Head.TheVariants.{TooLong, Shut, Wrong, Open}
 use Rattle.append_log.specs.declared.side_heads.Start.TheVariants.{Standing, Damaged}
-use Rattle.journal.specs.Logs.{leaves_in_use, IsBehind, HoldsLog, HoldsEither}
+use Rattle.journal.specs.Logs.{leaves_in_use, IsBehind, HoldsLog, HoldsOf, HoldsOrNew, HoldsRound}
 
 if_true : {X : Type 0} (b : Bool) (x y : X) → b ≡ true → (if b then x else y) ≡ x
 if_true true x y e = refl
@@ -98,21 +98,31 @@ pub behind_short : (g : ℕ) (side : Bytes) → IsBehind g side → length side 
 behind_short g side behind = ltb-false max_side (length side) (not_long (nat_lt max_side (length side)) _ g behind)
 
 -- so the sides hold its batches
+pub holds_of : (c : Sides) (side : Side) (v g : ℕ) (batches : List Bytes) → StandsFor v g batches (side_of c side) → IsBehind g (side_of c (other_side side))
+    → HoldsOf v g batches c
+holds_of c side v g batches stands behind = (side, stands_in c side v g batches stands behind)
+
+-- of some generation
+pub of_any : (c : Sides) (v g : ℕ) (batches : List Bytes) → HoldsOf v g batches c → HoldsLog v batches c
+of_any c v g batches holds = inl (holds.0, g, holds.1)
+
 pub holds : (c : Sides) (side : Side) (v g : ℕ) (batches : List Bytes) → StandsFor v g batches (side_of c side) → IsBehind g (side_of c (other_side side))
     → HoldsLog v batches c
-holds c side v g batches stands behind = inl (side, g, stands_in c side v g batches stands behind)
+holds c side v g batches stands behind = of_any c v g batches (holds_of c side v g batches stands behind)
 
 pub holds_round : (c : Sides) (side : Side) (v g : ℕ) (batches others : List Bytes)
     → StandsFor v g batches (side_of c side) ⊎ StandsFor v g others (side_of c side)
-    → IsBehind g (side_of c (other_side side)) → HoldsEither v batches v others c
-holds_round c side v g batches others (inl stands) behind = inl (holds c side v g batches stands behind)
-holds_round c side v g batches others (inr stands) behind = inr (holds c side v g others stands behind)
+    → IsBehind g (side_of c (other_side side)) → HoldsRound v g batches others c
+holds_round c side v g batches others (inl stands) behind = inl (holds_of c side v g batches stands behind)
+holds_round c side v g batches others (inr stands) behind = inr (holds_of c side v g others stands behind)
 
 -- the new side is not open yet, or is in use
 pub holds_opened : (c : Sides) (side : Side) (v g n : ℕ) (batches copied : List Bytes) → n ≡ g + 1 → StandsFor v g batches (side_of c side)
-    → IsShut (side_of c (other_side side)) ⊎ StandsFor newest n copied (side_of c (other_side side)) → HoldsEither v batches newest copied c
-holds_opened c side v g n batches copied next stands (inl shut) = inl (holds c side v g batches stands (shut_behind g (side_of c (other_side side)) shut))
+    → IsShut (side_of c (other_side side)) ⊎ StandsFor newest n copied (side_of c (other_side side)) → HoldsOrNew v g batches copied c
+holds_opened c side v g n batches copied next stands (inl shut) =
+    inl (holds_of c side v g batches stands (shut_behind g (side_of c (other_side side)) shut))
 holds_opened c side v g n batches copied next stands (inr opened) =
-    inr (holds c (other_side side) newest n copied opened
+    inr (subst (λ (m : ℕ). HoldsOf newest m copied c) next
+    (holds_of c (other_side side) newest n copied opened
     (older_behind v g n batches (side_of c (other_side (other_side side))) (omega (arith, next))
-    (subst (λ (s : Side). StandsFor v g batches (side_of c s)) (sym (other_other side)) stands)))
+    (subst (λ (s : Side). StandsFor v g batches (side_of c s)) (sym (other_other side)) stands))))

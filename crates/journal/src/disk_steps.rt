@@ -9,7 +9,7 @@ ghost use Rattle.outside.specs.declared.sides.Side.{Side};
 ghost use Rattle.outside.specs.Sides.{other_side};
 ghost use Rattle.log_sides.specs.Texts.{IsHeading, newest, committed, front_text, written};
 ghost use Rattle.log_rewrite.specs.declared.rewriters.Rewriter.{Rewriter};
-ghost use Rattle.journal.specs.Logs.{HoldsLog, HoldsEither};
+ghost use Rattle.journal.specs.Logs.{HoldsOf, HoldsOrNew, HoldsRound};
 ghost use Rattle.journal.specs.Keeping.{KeptOn, new_gate, next_generation};
 
 use append_log::AppendLog;
@@ -32,7 +32,7 @@ pub(crate) fn commit_log<D: Disk>(disk: &mut D, log: &mut AppendLog) -> Result<(
         → KeptOn D.crashes D.seen D.images disk.old log.old.side log.old.version log.old.generation log.old.gate
         rewriter batches copied → D.crashes disk.old ≡ true
         → LeavesOnly D.moment D.left_since disk.old disk.new
-        (HoldsEither log.old.version batches log.old.version (committed batches log.old.pending)) }
+        (HoldsRound log.old.version log.old.generation batches (committed batches log.old.pending)) }
     ensures told { D.crashes disk.new ≡ D.crashes disk.old }
     ensures cause { HasCause (D.faults disk.old) (D.faults disk.new) result }
     ensures side { log.new.side ≡ log.old.side }
@@ -69,7 +69,7 @@ pub(crate) fn read_front<D: Disk>(
     ensures leaves { (rewriter : Option Rewriter) (batches copied : List Bytes)
         → KeptOn D.crashes D.seen D.images disk.old log.now.side log.now.version log.now.generation log.now.gate
         rewriter batches copied → D.crashes disk.old ≡ true
-        → LeavesOnly D.moment D.left_since disk.old disk.new (HoldsLog log.now.version batches) }
+        → LeavesOnly D.moment D.left_since disk.old disk.new (HoldsOf log.now.version log.now.generation batches) }
     ensures told { D.crashes disk.new ≡ D.crashes disk.old }
     ensures cause { HasCause (D.faults disk.old) (D.faults disk.new) result }
 {
@@ -96,7 +96,7 @@ pub(crate) fn mirror_batch<D: Disk>(
     ensures leaves { (side : Side) (version generation gate : ℕ) (batches copied : List Bytes)
         → KeptOn D.crashes D.seen D.images disk.old side version generation gate rewriter.old batches copied
         → D.crashes disk.old ≡ true
-        → LeavesOnly D.moment D.left_since disk.old disk.new (HoldsLog version batches) }
+        → LeavesOnly D.moment D.left_since disk.old disk.new (HoldsOf version generation batches) }
     ensures told { D.crashes disk.new ≡ D.crashes disk.old }
     ensures cause { HasCause (D.faults disk.old) (D.faults disk.new) result }
     ensures goes_on { is_some rewriter.new ≡ is_some rewriter.old }
@@ -122,7 +122,7 @@ pub(crate) fn begin_beside<D: Disk>(disk: &mut D, log: &AppendLog) -> Result<Rew
         → KeptOn D.crashes D.seen D.images disk.old log.now.side log.now.version log.now.generation log.now.gate None
         batches copied
         → D.crashes disk.old ≡ true
-        → LeavesOnly D.moment D.left_since disk.old disk.new (HoldsLog log.now.version batches) }
+        → LeavesOnly D.moment D.left_since disk.old disk.new (HoldsOf log.now.version log.now.generation batches) }
     ensures told { D.crashes disk.new ≡ D.crashes disk.old }
     ensures cause { HasCause (D.faults disk.old) (D.faults disk.new) result }
     ensures generation { IfOk result (λ r. r.generation ≡ log.now.generation + 1) }
@@ -162,7 +162,7 @@ pub(crate) fn copy_records<D: Disk>(
     ensures leaves { (side : Side) (version generation gate : ℕ) (batches copied : List Bytes)
         → KeptOn D.crashes D.seen D.images disk.old side version generation gate rewriter.old batches copied
         → D.crashes disk.old ≡ true
-        → LeavesOnly D.moment D.left_since disk.old disk.new (HoldsLog version batches) }
+        → LeavesOnly D.moment D.left_since disk.old disk.new (HoldsOf version generation batches) }
     ensures told { D.crashes disk.new ≡ D.crashes disk.old }
     ensures cause { HasCause (D.faults disk.old) (D.faults disk.new) result }
     ensures goes_on { is_some rewriter.new ≡ is_some rewriter.old }
@@ -184,7 +184,7 @@ pub(crate) fn open_new<D: Disk>(disk: &mut D, rewriter: Rewriter) -> Result<NewS
     ensures leaves { (side : Side) (version generation gate : ℕ) (batches copied : List Bytes)
         → KeptOn D.crashes D.seen D.images disk.old side version generation gate (Some rewriter) batches copied
         → D.crashes disk.old ≡ true
-        → LeavesOnly D.moment D.left_since disk.old disk.new (HoldsEither version batches newest copied) }
+        → LeavesOnly D.moment D.left_since disk.old disk.new (HoldsOrNew version generation batches copied) }
     ensures told { D.crashes disk.new ≡ D.crashes disk.old }
     ensures cause { HasCause (D.faults disk.old) (D.faults disk.new) result }
     ensures side { IfOk result (λ made. made.side ≡ rewriter.side) }

@@ -13,7 +13,7 @@ ghost use Rattle.outside.specs.declared.sides.Side.{Side};
 ghost use Rattle.outside.specs.Sides.{Sides};
 ghost use Rattle.outside.specs.Crashes.{LeavesOnly};
 ghost use Rattle.log_sides.specs.Texts.{newest, committed, front_text};
-ghost use Rattle.journal.specs.Logs.{HoldsLog, HoldsEither};
+ghost use Rattle.journal.specs.Logs.{HoldsOf, HoldsOrNew, HoldsRound};
 ghost use Rattle.journal.specs.Keeping.{new_gate, next_generation};
 
 use crate::disk_steps::{
@@ -188,7 +188,8 @@ impl<D: Disk> Journal<D> {
             → OnOk result (Keeps D.crashes D.seen D.images self.new batches copied) }
         ensures leaves { (batches copied : List Bytes) → Keeps D.crashes D.seen D.images self.old batches copied
             → D.crashes self.old.disk ≡ true
-            → LeavesOnly D.moment D.left_since self.old.disk self.new.disk (HoldsLog self.old.log.version batches) }
+            → LeavesOnly D.moment D.left_since self.old.disk self.new.disk
+            (HoldsOf self.old.log.version self.old.log.generation batches) }
         ensures ends { Ends D.faults self.old self.new result }
         ensures told { D.crashes self.new.disk ≡ D.crashes self.old.disk }
         ensures log { self.new.log ≡ self.old.log }
@@ -258,7 +259,7 @@ impl<D: Disk> Journal<D> {
         ensures leaves { (batches copied : List Bytes) → Keeps D.crashes D.seen D.images self.old batches copied
             → D.crashes self.old.disk ≡ true
             → LeavesOnly D.moment D.left_since self.old.disk self.new.disk
-            (HoldsEither self.old.log.version batches self.old.log.version (committed batches (pending self.old))) }
+            (HoldsRound self.old.log.version self.old.log.generation batches (committed batches (pending self.old))) }
         ensures ends { Ends D.faults self.old self.new result }
         ensures told { D.crashes self.new.disk ≡ D.crashes self.old.disk }
         ensures pending { OnOk result (pending self.new ≡ []) }
@@ -293,7 +294,7 @@ impl<D: Disk> Journal<D> {
         ensures leaves { (batches copied : List Bytes) → Keeps D.crashes D.seen D.images self.old batches copied
             → D.crashes self.old.disk ≡ true
             → LeavesOnly D.moment D.left_since self.old.disk self.new.disk
-            (HoldsEither self.old.log.version batches self.old.log.version (committed batches (pending self.old))) }
+            (HoldsRound self.old.log.version self.old.log.generation batches (committed batches (pending self.old))) }
         ensures pending { OnOk result (pending self.new ≡ []) }
         ensures told { D.crashes self.new.disk ≡ D.crashes self.old.disk }
         ensures cause { HasCause (D.faults self.old.disk) (D.faults self.new.disk) result }
@@ -322,7 +323,8 @@ impl<D: Disk> Journal<D> {
             → OnOk result (Keeps D.crashes D.seen D.images self.new batches []) }
         ensures leaves { (batches copied : List Bytes) → Keeps D.crashes D.seen D.images self.old batches copied
             → D.crashes self.old.disk ≡ true
-            → LeavesOnly D.moment D.left_since self.old.disk self.new.disk (HoldsLog self.old.log.version batches) }
+            → LeavesOnly D.moment D.left_since self.old.disk self.new.disk
+            (HoldsOf self.old.log.version self.old.log.generation batches) }
         ensures ends { Ends D.faults self.old self.new result }
         ensures told { D.crashes self.new.disk ≡ D.crashes self.old.disk }
         ensures pending { pending self.new ≡ [] }
@@ -368,7 +370,8 @@ impl<D: Disk> Journal<D> {
             → OnOk result (Keeps D.crashes D.seen D.images self.new batches (committed copied piece.now.records)) }
         ensures leaves { (batches copied : List Bytes) → Keeps D.crashes D.seen D.images self.old batches copied
             → D.crashes self.old.disk ≡ true
-            → LeavesOnly D.moment D.left_since self.old.disk self.new.disk (HoldsLog self.old.log.version batches) }
+            → LeavesOnly D.moment D.left_since self.old.disk self.new.disk
+            (HoldsOf self.old.log.version self.old.log.generation batches) }
         ensures ends { Ends D.faults self.old self.new result }
         ensures told { D.crashes self.new.disk ≡ D.crashes self.old.disk }
         ensures pending { pending self.new ≡ [] }
@@ -401,7 +404,7 @@ impl<D: Disk> Journal<D> {
         ensures leaves { (batches copied : List Bytes) → Keeps D.crashes D.seen D.images self.old batches copied
             → D.crashes self.old.disk ≡ true
             → LeavesOnly D.moment D.left_since self.old.disk self.new.disk
-            (HoldsEither self.old.log.version batches newest copied) }
+            (HoldsOrNew self.old.log.version self.old.log.generation batches copied) }
         ensures ends { Ends D.faults self.old self.new result }
         ensures told { D.crashes self.new.disk ≡ D.crashes self.old.disk }
         ensures pending { pending self.new ≡ [] }

@@ -1,8 +1,10 @@
 -- What each call of a core is to its history: an act.
-use Rattle.std.proofs.Common.{◌≡◌, ◌⊎◌, ◌≤◌, ℕ, Bool, true, false, [], Option, refl, sym, ap, ◌∙◌, subst, arith, inl, true≢false}
+use Rattle.std.proofs.Common.{◌≡◌, ◌⊎◌, ◌≤◌, ℕ, Bool, true, false, List, [], Option, refl, sym, ap, ◌∙◌, subst, arith, inl, true≢false}
 use Rattle.std.specs.Prelude.{◌||◌, Some}
 use Rattle.byte_text.specs.Names.{Bytes}
 use Rattle.outside.specs.Causes.{Rose}
+use Rattle.outside.specs.CrashLaws.{begins, weaker}
+use Rattle.outside.specs.Crashes.{LeavesOnly}
 use Rattle.outside.specs.Sides.{Sides}
 use Rattle.world_model.specs.Halls.{Hall}
 use Rattle.world_model.specs.Histories.{Step, when_stopped, stopped, is_log_fault, is_rewrite}
@@ -13,6 +15,8 @@ use Rattle.world_model.specs.declared.events.Event.{Event}
 use Rattle.world_model.specs.declared.events.Event.TheVariants.{Retire}
 use Rattle.world_model.specs.declared.events.Outcome.{Outcome}
 use Rattle.world_model.specs.declared.events.Outcome.TheVariants.{Answered}
+use Rattle.journal.specs.Growing.{grown_on}
+use Rattle.journal.specs.Logs.{Grows, HasGrown}
 use Rattle.journal.specs.Openings.{opened_generation}
 use Rattle.log_record.specs.Journals.{Journal, Turn, TellsNow, is_retire, shows}
 use Rattle.log_record.specs.Recovery.{Recovers}
@@ -22,6 +26,7 @@ use Rattle.log_record.specs.TurnLaws.{turn_keeps_safe}
 use Rattle.durable_core.specs.Logged.{hall_of, disk_of, generation_of, KeepsLogOf, GoesOn}
 use Rattle.durable_core.specs.StepLaws.{stops, same_hall}
 use Rattle.durable_core.specs.declared.cores.DurableCore.{DurableCore}
+use Rattle.durable_core.specs.Written.{KeepsSided, Sided}
 use Rattle.durable_core.specs.Histories.{Writing, is_failed_step, written, writing_of}
 use Rattle.shared_hall.specs.Cores.{hall_in, writing_in, disk_in, has_left, KeepsIn, ActsNoted}
 use Rattle.shared_hall.specs.Turns.{GivesOut}
@@ -47,6 +52,20 @@ module _ {D : Type 0} (crashes : D → Bool) (seen : D → Option Sides) (images
   not_earlier old new h next event outcome before after turn true is = let same = ap moment (turn.stopped is) in omega (arith, same)
   not_earlier old new h next event outcome before after turn false is = (turn.leaves is).later
 
+  -- a call of a core leaves no log that did not grow from what its own log grew from
+  left_inside : (c d : DurableCore D) (event : Event) (outcome : Outcome) (j : Journal) → GoesOn crashes seen images moment left_since c d event outcome j → crashes (disk_of c) ≡ true
+      → (before : ℕ) (earlier : List Bytes) → ((hall_of c).stopped ≡ false → (t : Sided) × KeepsSided crashes seen images c.tail.journal t × Grows before (generation_of c) earlier t.batches)
+      → LeavesOnly moment left_since (disk_of c) (disk_of d) (HasGrown before earlier)
+  left_inside c d event outcome j on crash before earlier some = by (hall_of c).stopped refl
+    where
+      by : (b : Bool) → (hall_of c).stopped ≡ b → LeavesOnly moment left_since (disk_of c) (disk_of d) (HasGrown before earlier)
+      by true is = subst (λ (x : D). LeavesOnly moment left_since (disk_of c) x (HasGrown before earlier)) (sym ((on.owes crash).turn.stopped is))
+          (begins moment left_since (disk_of c) (HasGrown before earlier))
+      by false is =
+          let has = some is in
+          weaker moment left_since (disk_of c) (disk_of d) (HasGrown (generation_of c) has.0.batches) (HasGrown before earlier)
+          (λ image grown. grown_on before (generation_of c) earlier has.0.batches image has.2 grown) (on.leaves_grown crash has.0 has.1)
+
   -- which event may bear a note
   abbrev MayNote : Event → DurableCore D → Bytes → Type 0
   MayNote event d note = (note ≡ []) ⊎ ((is_rewrite event ≡ true) × ((hall_of d).stopped ≡ false))
@@ -70,6 +89,7 @@ module _ {D : Type 0} (crashes : D → Bool) (seen : D → Option Sides) (images
         let on = log j kept in
         let owes = on.owes crash in
         (on.after, on.log, not_earlier (disk_of c) (disk_of d) (hall_of c) (hall_of d) event outcome j on.after owes.turn (hall_of c).stopped refl, owes.safe);
+    left = λ j kept crash before earlier some. left_inside c d event outcome j (log j kept) crash before earlier some;
   }
 
   -- one that leaves the disk alone
@@ -105,6 +125,7 @@ module _ {D : Type 0} (crashes : D → Bool) (seen : D → Option Sides) (images
               shown = λ shown. absurd (true≢false (sym shown ∙ (stopped_says event).not_shown));
             } in
             (j, kept, omega arith, turn_keeps_safe images moment left_since d d h h j j event (when_stopped event) (tells d) (tells d) step turn);
+        left = λ j kept crash before earlier some. begins moment left_since d (HasGrown before earlier);
       }
 
   -- the same of the place where a core was found
@@ -163,6 +184,8 @@ module _ {D : Type 0} (crashes : D → Bool) (seen : D → Option Sides) (images
               subst (λ (x : D). KeepsSafe images moment left_since (disk_of c) x (hall_of c) j Retire outcome (hall_in q) on.after) (sym same)
                   (subst (λ (h : Hall). KeepsSafe images moment left_since (disk_of c) (disk_of d) (hall_of c) j Retire outcome h on.after) there owes.safe),
             );
+        left = λ j kept crash before earlier some. subst (λ (x : D). LeavesOnly moment left_since (disk_of c) x (HasGrown before earlier)) (sym same)
+            (left_inside c d Retire outcome j (log j kept) crash before earlier some);
       })
 
   -- and the disk that it gives out

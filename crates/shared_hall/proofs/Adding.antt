@@ -59,7 +59,7 @@ module _ {D : Type 0} (crashes : D → Bool) (seen : D → Option Sides) (images
   Done = IsDone crashes seen images moment left_since faults handed first
 
   abbrev In : Bool → Place D → Opening → List Entry → Type 0
-  In told = StandsIn crashes seen images moment left_since faults told first
+  In told = StandsIn crashes seen images moment left_since faults handed told first
 
   -- a turn did the work, and its acts are the seat's own
   pub is_done : StepsLeadToOne → (told : Bool) (w : HallWork) (out : HallAnswer D) (k l : Known (Begun D) Entry) (b : Begun D) (log made : List Entry) (g h' : Place D) → told ≡ tells crashes seen handed → OwnPlaces k → OwnsKept is_retirement l → Gives crashes seen images moment left_since faults w g out h'

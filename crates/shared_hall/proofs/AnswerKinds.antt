@@ -38,6 +38,7 @@ use Rattle.shared_hall.specs.Fed.{EndsNoted, note_in}
 use Rattle.shared_hall.specs.Seats.{AnswersAsk, IsDone}
 use Rattle.shared_hall.specs.Times.{entries_at, noted_at}
 use Rattle.shared_hall.proofs.Adding.{NoRetire, calls_go_on, adds_acts, adds_named}
+use Rattle.shared_hall.proofs.Feeding.{any_feeds}
 
 module _ {D : Type 0} (crashes : D → Bool) (seen : D → Option Sides) (images : D → Sides → Type 0) (moment : D → ℕ) (left_since : D → ℕ → Sides → Type 0) (faults : D → ℕ) (handed : D) (first : Writing) where
   abbrev GivesIn : HallWork → Place D → HallAnswer D → Place D → Type 0
@@ -201,13 +202,13 @@ module _ {D : Type 0} (crashes : D → Bool) (seen : D → Option Sides) (images
             let k = d.stood.kept told in
             let x = gives k.1.0 k.1.1 in
             subst (λ (x : Hall). IsPartOfWorld w.ask (writing_in d.after).generation x.world part (bytes_in into)) (sym (d.one h reached))
-                (record { batches = x.0; whole = x.1.makes.whole; world_is = x.1.makes.world_is; is = x.1.is });
+            (record { batches = x.0; whole = x.1.makes.whole; world_is = x.1.makes.world_is; is = x.1.is });
         noted = ends;
         numbers = λ told.
             let k = d.stood.kept told in
             let x = gives k.1.0 k.1.1 in
             (x.1.asked, x.1.given);
-        feeds = λ told. let f = d.stands.fed told in record { logs = f.0; whole = f.1; fed = f.2 };
+        feeds = λ told. let f = d.stands.fed told in any_feeds _ _ first new f.0 f.1 f.2 f.3;
       }
       by parts.LogFault gives ends = tt
       by parts.Stopped gives ends = tt

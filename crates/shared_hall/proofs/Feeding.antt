@@ -5,17 +5,18 @@ use Rattle.std.proofs.lemmas.Bool.{eqb-true}
 use Rattle.std.proofs.lemmas.Bool.Decides.{nat_tests}
 use Rattle.byte_text.specs.Names.{Bytes}
 use Rattle.log_sides.specs.Texts.{newest}
+use Rattle.journal.specs.Logs.{Grows}
 use Rattle.journal.specs.Openings.{AreWhole}
 use Rattle.world_recovery.specs.Recorded.{record_fault}
 use Rattle.world_model.specs.Halls.{Hall}
-use Rattle.world_model.specs.Histories.{Step, StepBy, refusal_going, when_stopped}
-use Rattle.world_model.specs.Seats.{Act, act_of}
+use Rattle.world_model.specs.Histories.{Step, StepBy, opening_hall, refusal_going, when_stopped}
+use Rattle.world_model.specs.Seats.{Act, Knows, act_of}
 use Rattle.world_model.specs.declared.events.Entry.{Entry}
 use Rattle.world_model.specs.declared.events.Event.{Event}
 use Rattle.world_model.specs.declared.events.Outcome.{Outcome}
 use Rattle.durable_core.specs.Histories.{Writing, Writes}
 use Rattle.durable_core.specs.Written.{Sided}
-use Rattle.shared_hall.specs.Fed.{AreAllWhole, AreFed, Grows, IsFed, IsNoted}
+use Rattle.shared_hall.specs.Fed.{AreAllWhole, AreFed, FeedsLogs, IsFed, IsNoted, WasTold, WereTold, any_grown, any_lasting}
 use Rattle.shared_hall.specs.Standing.{IsLast}
 use Rattle.shared_hall.specs.Times.{Time}
 use Rattle.shared_hall.proofs.Raising.{raised}
@@ -24,11 +25,12 @@ use Rattle.shared_hall.proofs.Raising.{raised}
 abbrev GoOn : (ℕ → List Bytes) → (ℕ → List Bytes) → Type 0
 GoOn logs next = (n : ℕ) → (more : List Bytes) × (next n ≡ logs n ++ more)
 
-fed_on : (logs next : ℕ → List Bytes) (h : Hall) (first : Writing) (acts : List Act) (es : List Entry) → GoOn logs next → AreFed logs h first acts es → AreFed next h first acts es
-fed_on logs next h first acts [] on fed = tt
-fed_on logs next h first acts (e ∷ es) on fed = (by fed.0, fed_on logs next h first (acts ++ act_of e ∷ []) es on fed.1)
+fed_on : (lasting on_lasting : ℕ → ℕ → List Bytes → Type 0) (logs next : ℕ → List Bytes) (h : Hall) (first : Writing) (acts : List Act) (es : List Entry)
+    → ((since g : ℕ) (batches : List Bytes) → lasting since g batches → on_lasting since g batches) → GoOn logs next → AreFed lasting logs h first acts es → AreFed on_lasting next h first acts es
+fed_on lasting on_lasting logs next h first acts [] last on fed = tt
+fed_on lasting on_lasting logs next h first acts (e ∷ es) last on fed = (by fed.0, fed_on lasting on_lasting logs next h first (acts ++ act_of e ∷ []) es last on fed.1)
   where
-    by : (e.note ≡ []) ⊎ IsFed logs h first (acts ++ act_of e ∷ []) e.note → (e.note ≡ []) ⊎ IsFed next h first (acts ++ act_of e ∷ []) e.note
+    by : (e.note ≡ []) ⊎ IsFed lasting logs h first (acts ++ act_of e ∷ []) e.moment e.note → (e.note ≡ []) ⊎ IsFed on_lasting next h first (acts ++ act_of e ∷ []) e.moment e.note
     by (inl none) = inl none
     by (inr f) =
         let m = on f.end.generation in
@@ -40,20 +42,31 @@ fed_on logs next h first acts (e ∷ es) on fed = (by fed.0, fed_on logs next h 
           later = f.later ++ m.0;
           begun = m.1 ∙ ap (λ (l : List Bytes). l ++ m.0) f.begun ∙ append_assoc f.batches f.later m.0;
           noted = f.noted;
+          lasts = last e.moment f.end.generation f.batches f.lasts;
         })
 
+-- what lasts, as something else that follows
+pub fed_lasting : (lasting on_lasting : ℕ → ℕ → List Bytes → Type 0) (logs : ℕ → List Bytes) (h : Hall) (first : Writing) (acts : List Act) (es : List Entry)
+    → ((since g : ℕ) (batches : List Bytes) → lasting since g batches → on_lasting since g batches) → AreFed lasting logs h first acts es → AreFed on_lasting logs h first acts es
+fed_lasting lasting on_lasting logs h first acts es last fed = fed_on lasting on_lasting logs logs h first acts es last (λ n. ([], sym (append-nil (logs n)))) fed
+
 -- one entry more
-pub fed_last : (logs : ℕ → List Bytes) (h : Hall) (first : Writing) (acts : List Act) (log : List Entry) (e : Entry) → AreFed logs h first acts log
-    → (e.note ≡ []) ⊎ IsFed logs h first ((acts ++ map act_of log) ++ act_of e ∷ []) e.note → AreFed logs h first acts (log ++ e ∷ [])
-fed_last logs h first acts [] e fed last = (subst (λ (l : List Act). (e.note ≡ []) ⊎ IsFed logs h first (l ++ act_of e ∷ []) e.note) (append-nil acts) last, tt)
-fed_last logs h first acts (d ∷ log) e fed last =
-    (fed.0, fed_last logs h first (acts ++ act_of d ∷ []) log e fed.1 (subst (λ (l : List Act). (e.note ≡ []) ⊎ IsFed logs h first (l ++ act_of e ∷ []) e.note) (sym (append_assoc acts (act_of d ∷ []) (map act_of log))) last))
+pub fed_last : (lasting : ℕ → ℕ → List Bytes → Type 0) (logs : ℕ → List Bytes) (h : Hall) (first : Writing) (acts : List Act) (log : List Entry) (e : Entry) → AreFed lasting logs h first acts log
+    → (e.note ≡ []) ⊎ IsFed lasting logs h first ((acts ++ map act_of log) ++ act_of e ∷ []) e.moment e.note → AreFed lasting logs h first acts (log ++ e ∷ [])
+fed_last lasting logs h first acts [] e fed last =
+    (subst (λ (l : List Act). (e.note ≡ []) ⊎ IsFed lasting logs h first (l ++ act_of e ∷ []) e.moment e.note) (append-nil acts) last, tt)
+fed_last lasting logs h first acts (d ∷ log) e fed last = (
+  fed.0,
+  fed_last lasting logs h first (acts ++ act_of d ∷ []) log e fed.1
+      (subst (λ (l : List Act). (e.note ≡ []) ⊎ IsFed lasting logs h first (l ++ act_of e ∷ []) e.moment e.note) (sym (append_assoc acts (act_of d ∷ []) (map act_of log))) last),
+)
 
 -- entries that end later, which bear no note
-pub fed_raised : (t : Time) (logs : ℕ → List Bytes) (h : Hall) (first : Writing) (acts : List Act) (log es : List Entry) → AreFed logs h first acts (log ++ es) → AreFed logs h first acts (log ++ map (raised t) es)
-fed_raised t logs h first acts [] [] fed = tt
-fed_raised t logs h first acts [] (e ∷ es) fed = (inl refl, fed_raised t logs h first (acts ++ act_of e ∷ []) [] es fed.1)
-fed_raised t logs h first acts (b ∷ log) es fed = (fed.0, fed_raised t logs h first (acts ++ act_of b ∷ []) log es fed.1)
+pub fed_raised : (t : Time) (lasting : ℕ → ℕ → List Bytes → Type 0) (logs : ℕ → List Bytes) (h : Hall) (first : Writing) (acts : List Act) (log es : List Entry)
+    → AreFed lasting logs h first acts (log ++ es) → AreFed lasting logs h first acts (log ++ map (raised t) es)
+fed_raised t lasting logs h first acts [] [] fed = tt
+fed_raised t lasting logs h first acts [] (e ∷ es) fed = (inl refl, fed_raised t lasting logs h first (acts ++ act_of e ∷ []) [] es fed.1)
+fed_raised t lasting logs h first acts (b ∷ log) es fed = (fed.0, fed_raised t lasting logs h first (acts ++ act_of b ∷ []) log es fed.1)
 
 -- the logs, of which that of one generation now has these batches
 abbrev pub with_log : ℕ → List Bytes → (ℕ → List Bytes) → ℕ → List Bytes
@@ -104,18 +117,46 @@ module _ (logs : ℕ → List Bytes) (g k : ℕ) (before after : List Bytes) (he
       by true = more
       by false = whole n
 
+  -- a part was told of it
+  pub told_more : (grew : ℕ → List Bytes → Type 0) → grew k after → WereTold grew logs → WereTold grew (with_log k after logs)
+  told_more grew so told n = by (n == k) refl
+    where
+      here_now : n ≡ k → WasTold grew (with_log k after logs) n
+      here_now same = record {
+        batches = after;
+        later = [];
+        begun = ap (with_log k after logs) same ∙ now_here ∙ sym (append-nil after);
+        grew_so = subst (λ (m : ℕ). grew m after) (sym same) so;
+      }
+
+      as_before : (n == k) ≡ false → (logs n ≡ []) ⊎ WasTold grew logs n → (with_log k after logs n ≡ []) ⊎ WasTold grew (with_log k after logs) n
+      as_before other (inl none) = inl (ap (λ (b : Bool). if b then after else logs n) other ∙ none)
+      as_before other (inr was) = inr (record {
+        batches = was.batches;
+        later = was.later;
+        begun = ap (λ (b : Bool). if b then after else logs n) other ∙ was.begun;
+        grew_so = was.grew_so;
+      })
+
+      by : (b : Bool) → (n == k) ≡ b → (with_log k after logs n ≡ []) ⊎ WasTold grew (with_log k after logs) n
+      by true is = inr (here_now (eqb-true n k is))
+      by false is = as_before is (told n)
+
   -- an entry more tells a part of it
-  pub fed_more : (h : Hall) (first : Writing) (log : List Entry) (e : Entry) (next : Hall) (end : Writing) → end.generation ≡ k → AreFed logs h first [] log → Writes h first (map act_of log ++ act_of e ∷ []) next end
-      → IsNoted k next.world after e.note → AreFed (with_log k after logs) h first [] (log ++ e ∷ [])
-  fed_more h first log e next end is fed writes noted = fed_last (with_log k after logs) h first [] log e (fed_on logs (with_log k after logs) h first [] log go_on fed) (inr (record {
-    hall = next;
-    end = end;
-    writes = writes;
-    batches = after;
-    later = [];
-    begun = ap (with_log k after logs) is ∙ now_here ∙ sym (append-nil after);
-    noted = subst (λ (m : ℕ). IsNoted m next.world after e.note) (sym is) noted;
-  }))
+  pub fed_more : (lasting on_lasting : ℕ → ℕ → List Bytes → Type 0) (h : Hall) (first : Writing) (log : List Entry) (e : Entry) (next : Hall) (end : Writing) → end.generation ≡ k
+      → ((since n : ℕ) (batches : List Bytes) → lasting since n batches → on_lasting since n batches) → AreFed lasting logs h first [] log → Writes h first (map act_of log ++ act_of e ∷ []) next end
+      → IsNoted k next.world after e.note → on_lasting e.moment k after → AreFed on_lasting (with_log k after logs) h first [] (log ++ e ∷ [])
+  fed_more lasting on_lasting h first log e next end is last fed writes noted lasts =
+      fed_last on_lasting (with_log k after logs) h first [] log e (fed_on lasting on_lasting logs (with_log k after logs) h first [] log last go_on fed) (inr (record {
+        hall = next;
+        end = end;
+        writes = writes;
+        batches = after;
+        later = [];
+        begun = ap (with_log k after logs) is ∙ now_here ∙ sym (append-nil after);
+        noted = subst (λ (m : ℕ). IsNoted m next.world after e.note) (sym is) noted;
+        lasts = subst (λ (m : ℕ). on_lasting e.moment m after) (sym is) lasts;
+      }))
 
   pub last_more : (sides : Sided) (sided : Sided → Type 0) → sides.batches ≡ after → sided sides → IsLast (with_log k after logs) k sided
   last_more sides sided is keeps = record { sides = sides; keeps = keeps; here = ([], is ∙ sym now_here ∙ sym (append-nil (with_log k after logs k))); none = none_later }
@@ -129,3 +170,17 @@ went_on h next event outcome step going = by h.stopped refl
     by true is =
         let ends = subst (λ (b : Bool). StepBy (if b then Some (when_stopped event, h) else refusal_going h event) h event outcome next) is step in
         sym (ap (λ (g : Hall). g.stopped) ends.1) ∙ going
+
+-- what a history feeds, with nothing said of what lasts
+pub any_feeds : (lasting : ℕ → ℕ → List Bytes → Type 0) (grew : ℕ → List Bytes → Type 0) (first : Writing) (k : Knows) (logs : ℕ → List Bytes) → AreAllWhole logs → WereTold grew logs
+    → AreFed lasting logs (opening_hall k.opening.world k.opening.logged) first [] k.seen → FeedsLogs any_lasting any_grown first k
+any_feeds lasting grew first k logs whole told fed = record {
+  logs = logs;
+  whole = whole;
+  told = λ n. by n (told n);
+  fed = fed_lasting lasting any_lasting logs (opening_hall k.opening.world k.opening.logged) first [] k.seen (λ since g batches was. tt) fed;
+}
+  where
+    by : (n : ℕ) → (logs n ≡ []) ⊎ WasTold grew logs n → (logs n ≡ []) ⊎ WasTold any_grown logs n
+    by n (inl none) = inl none
+    by n (inr was) = inr (record { batches = was.batches; later = was.later; begun = was.begun; grew_so = tt })

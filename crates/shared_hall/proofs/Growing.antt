@@ -11,7 +11,9 @@ use Rattle.world_model.specs.declared.events.CallOutcome.TheVariants as called
 use Rattle.world_model.specs.declared.events.Event.TheVariants.{Rewrite}
 use Rattle.world_model.specs.declared.events.Outcome.TheVariants.{Answered}
 use Rattle.log_sides.specs.Texts.{committed, front_text, gate_place, max_side, newest}
+use Rattle.journal.specs.Growing.{committed_more}
 use Rattle.journal.specs.Journals.{pending}
+use Rattle.journal.specs.Logs.{Grows}
 use Rattle.log_record.specs.Journals.{Journal}
 use Rattle.repl_stream.specs.Feeds.{IfGiven, bytes_in, called_of}
 use Rattle.repl_stream.specs.Texts.{IsAsk, max_part}
@@ -31,17 +33,12 @@ use Rattle.durable_core.specs.declared.rewritings.Rewriting.{Rewriting}
 use Rattle.durable_core.specs.declared.rewritings.Rewriting.TheVariants as rewriting
 use Rattle.durable_core.specs.declared.tails.Tail.{Tail}
 use Rattle.shared_hall.specs.Cores.{SidedIn, hall_in, writing_in}
-use Rattle.shared_hall.specs.Fed.{Grows, IsGiven, IsNoted, note_in}
+use Rattle.shared_hall.specs.Fed.{IsGiven, IsNoted, note_in}
 use Rattle.shared_hall.specs.Standing.{FeedsOn}
 use Rattle.shared_hall.specs.declared.places.Place.TheVariants.{Inside}
 use Rattle.shared_hall.proofs.Feeding.{went_on}
 
--- a commit puts a batch behind the others, or none
-committed_more : (batches : List Bytes) (batch : Bytes) → (more : List Bytes) × (committed batches batch ≡ batches ++ more)
-committed_more batches [] = ([], sym (append-nil batches))
-committed_more batches (byte ∷ bytes) = ((byte ∷ bytes) ∷ [], refl)
-
--- so does a step of a rewriting, unless it ends it
+-- a commit puts a batch behind the others, or none; so does a step of a rewriting, unless it ends it
 next_grows : (r : Rewriting) (w : World) (g : ℕ) (batch : Bytes) (s : Sided) → Grows g (next_generation r w g) s.batches (sided_next r w (sided_with batch s)).batches
 next_grows rewriting.Idle w g batch s = inl (omega arith, committed_more s.batches batch)
 next_grows rewriting.Asked w g batch s = inl (omega arith, committed_more s.batches batch)

@@ -7,9 +7,11 @@ mod Following
 mod Growing
 pub mod Crosses
 mod Joining
+mod Lasting
 mod Leading
 mod Once
 mod Opening
+mod Outliving
 mod Raising
 mod Retiring
 mod Standing

@@ -1,7 +1,9 @@
 -- A hall that has no history yet.
-use Rattle.std.proofs.Common.{◌≡◌, ◌≤◌, ℕ, zero, suc, Bool, true, false, [], take, inl, Option, refl, sym, ap, ◌∙◌, subst, arith, true≢false}
+use Rattle.std.proofs.Common.{◌≡◌, ◌≤◌, ℕ, zero, suc, Bool, true, false, List, [], take, inl, ⊎_elim, Option, refl, sym, ap, ◌∙◌, subst, arith, true≢false}
 use Rattle.std.specs.Prelude.{if◌then◌else◌}
 use Rattle.outside.specs.Sides.{Sides}
+use Rattle.byte_text.specs.Names.{Bytes}
+use Rattle.journal.specs.Logs.{Grows}
 use Rattle.turn_lock.specs.Seats.{first_known}
 use Rattle.turn_lock.specs.declared.seat.Known.{Known}
 use Rattle.world_data.specs.declared.worlds.World.{World}
@@ -22,6 +24,7 @@ use Rattle.shared_hall.specs.declared.places.HallCore.{HallCore}
 use Rattle.shared_hall.specs.declared.places.Place.{Place}
 use Rattle.shared_hall.specs.declared.places.Place.TheVariants.{Inside}
 use Rattle.shared_hall.proofs.Feeding.{last_still}
+use Rattle.shared_hall.proofs.Lasting.{keeps_once}
 
 -- a disk that is safe since an earlier moment of an opening is so since a later one
 module _ {D : Type 0} (images : D → Sides → Type 0) (moment : D → ℕ) (left_since : D → ℕ → Sides → Type 0) (disk : D) (o p : Opening)
@@ -52,7 +55,8 @@ module _ {D : Type 0} (images : D → Sides → Type 0) (moment : D → ℕ) (le
   opens_later h j s = record { reached = opens_same h s.reached; past = within; safe = opens_safe s.safe; log = s.log }
 
 module _ {D : Type 0} (crashes : D → Bool) (seen : D → Option Sides) (images : D → Sides → Type 0) (moment : D → ℕ) (left_since : D → ℕ → Sides → Type 0) (faults : D → ℕ)
-    (from_earlier : (disk : D) (t u : ℕ) (c : Sides) → t ≤ u → u ≤ moment disk → left_since disk u c → left_since disk t c) where
+    (from_earlier : (disk : D) (t u : ℕ) (c : Sides) → t ≤ u → u ≤ moment disk → left_since disk u c → left_since disk t c)
+    (only_now : (disk : D) (c : Sides) → left_since disk (moment disk) c → images disk c) where
   abbrev OpenedOn : DurableCore D → D → Type 0
   OpenedOn = IsOpenedOn crashes seen images moment left_since faults
 
@@ -71,7 +75,7 @@ module _ {D : Type 0} (crashes : D → Bool) (seen : D → Option Sides) (images
   pub stands_at : (h : HallCore D) (c : DurableCore D) → h.place ≡ Inside c → OpenedOn c h.handed.value → StandsFor crashes seen images moment left_since faults h (begun crashes seen images moment left_since faults h) []
   stands_at h c is opened = record {
     handed = refl;
-    stands = subst (λ (p : Place D). StandsIn crashes seen images moment left_since faults (tells crashes seen h.handed.value) (writing_in p) p (opening_with crashes seen images moment left_since faults h.handed.value (hall_in p) (disk_in p)) []) (sym is) (record {
+    stands = subst (λ (p : Place D). StandsIn crashes seen images moment left_since faults h.handed.value (tells crashes seen h.handed.value) (writing_in p) p (opening_with crashes seen images moment left_since faults h.handed.value (hall_in p) (disk_in p)) []) (sym is) (record {
       reached = opened.hall;
       writes = (opened.hall, refl);
       sound = opened.sound;
@@ -91,11 +95,21 @@ module _ {D : Type 0} (crashes : D → Bool) (seen : D → Option Sides) (images
                   (sym found.1) (sym found.2) (omega (arith, found.3.past, now)) (now_within (tells crashes seen h.handed.value) (disk_of c)) (hall_of c) (settled_log (hall_of c).world) found.3,
             ),
           );
+      carried = λ told before earlier was.
+          let left = opened.left told before earlier was in
+          let has = opened.grown told before earlier was in
+          let k = c.tail.journal in
+          record {
+            past = left.later;
+            lasts = λ image at. ⊎_elim (λ old. was.each image (only_now h.handed.value image old)) (λ grown. grown) (left.either (moment h.handed.value) image (omega arith) at);
+            now = λ going t keeps. subst (λ (b : List Bytes). Grows before (generation_of c) earlier b) (keeps_once crashes seen images k has.sides.batches has.sides.copied t.batches t.copied has.keeps keeps) has.grows;
+          };
       fed = λ told.
           let k = (opened.kept told (ap (λ (g : Hall). g.stopped) opened.hall)).kept in
           let n = generation_of c in (
             λ m. [],
             λ m. tt,
+            λ m. inl refl,
             tt,
             λ goes. last_still (λ m. []) n n [] k.batches ([], refl) (λ m later. refl) (inl (refl, (k.batches, refl))) (record { batches = k.batches; copied = k.copied }) (SidedIn crashes seen images (Inside c)) refl k.keeps,
           );

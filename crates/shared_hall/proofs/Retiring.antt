@@ -1,12 +1,13 @@
 -- What a retirement tells.
-use Rattle.std.proofs.Common.{◌≡◌, ℕ, Bool, true, [], ◌∷◌, sym, ap, ◌∙◌, subst}
+use Rattle.std.proofs.Common.{◌≡◌, ℕ, Bool, true, List, [], ◌∷◌, sym, ap, ◌∙◌, subst}
 use Rattle.std.specs.Prelude.{Option, None, Some, is_some, not, min, IfSome}
 use Rattle.std.specs.List.{list_any}
+use Rattle.byte_text.specs.Names.{Bytes}
 use Rattle.outside.specs.Causes.{most_count}
 use Rattle.outside.specs.Crashes.{EachImage}
 use Rattle.outside.specs.Sides.{Sides}
 use Rattle.world_model.specs.Halls.{Hall}
-use Rattle.world_model.specs.Histories.{Reaches}
+use Rattle.world_model.specs.Histories.{Reaches, opening_hall}
 use Rattle.world_model.specs.Seats.{Knows, AddsCalls}
 use Rattle.world_model.specs.declared.events.CallOutcome.{CallOutcome}
 use Rattle.world_model.specs.declared.events.CallOutcome.TheVariants as called
@@ -15,8 +16,9 @@ use Rattle.log_record.specs.Recovery.{Recovers}
 use Rattle.log_record.specs.Safety.{Safe, count_after}
 use Rattle.durable_core.specs.Histories.{LeavesGeneration, Writing}
 use Rattle.journal.specs.Openings.{opened_generation}
-use Rattle.shared_hall.specs.Cores.{hall_in, has_left, tells, writing_in}
-use Rattle.shared_hall.specs.Fed.{FeedsLogs}
+use Rattle.shared_hall.specs.Cores.{disk_in, hall_in, has_left, tells, writing_in}
+use Rattle.shared_hall.specs.Fed.{FeedsLogs, GrewFrom, IsFound, LastsOn, any_grown, any_lasting}
+use Rattle.shared_hall.specs.Restarts.{Carries}
 use Rattle.shared_hall.specs.Seats.{IsDone}
 use Rattle.shared_hall.specs.Times.{is_retirement}
 use Rattle.shared_hall.specs.Turns.{acts, retire_outcome, Gives, GivesOut}
@@ -24,6 +26,7 @@ use Rattle.shared_hall.specs.declared.works.HallAnswer.{HallAnswer}
 use Rattle.shared_hall.specs.declared.works.HallAnswer.TheVariants as answer
 use Rattle.shared_hall.specs.declared.works.HallWork.TheVariants as work
 use Rattle.shared_hall.proofs.Adding.{adds_acts}
+use Rattle.shared_hall.proofs.Feeding.{any_feeds, fed_lasting}
 
 module _ {D : Type 0} (crashes : D → Bool) (seen : D → Option Sides) (images : D → Sides → Type 0) (moment : D → ℕ) (left_since : D → ℕ → Sides → Type 0) (faults : D → ℕ) (handed : D) (first : Writing)
     (out : HallAnswer D) (old new : Knows) (given : Option (D × CallOutcome)) (is : out ≡ answer.Retired given) (d : IsDone crashes seen images moment left_since faults handed first work.Retire out old new) where
@@ -64,8 +67,29 @@ module _ {D : Type 0} (crashes : D → Bool) (seen : D → Option Sides) (images
           let k = d.stood.kept told in
           subst (λ (x : Hall). Recovers image x.world) (sym (d.one h reached)) (g.3 k.1.0 k.1.1 k.0 ok image at)
 
-  pub given_feeds : tells crashes seen handed ≡ true → FeedsLogs first new
-  given_feeds told = let f = d.stands.fed told in record { logs = f.0; whole = f.1; fed = f.2 }
+  pub given_feeds : tells crashes seen handed ≡ true → FeedsLogs any_lasting any_grown first new
+  given_feeds told = let f = d.stands.fed told in any_feeds _ _ first new f.0 f.1 f.2 f.3
+
+  -- of the disk that is given out
+  abbrev Found : ℕ → List Bytes → Type 0
+  Found = IsFound (seen handed) (images handed)
+
+  pub given_lasts : tells crashes seen handed ≡ true → IfSome given (λ p. FeedsLogs (LastsOn (left_since p.0)) (GrewFrom Found) first new)
+  given_lasts told = by given gives
+    where
+      by : (given : Option (D × CallOutcome)) → GivesOut crashes seen images moment left_since faults d.before given d.after → IfSome given (λ p. FeedsLogs (LastsOn (left_since p.0)) (GrewFrom Found) first new)
+      by None g = tt
+      by (Some p) g =
+          let f = d.stands.fed told in
+          subst (λ (x : D). FeedsLogs (LastsOn (left_since x)) (GrewFrom Found) first new) g.2
+          (record { logs = f.0; whole = f.1; told = f.2; fed = fed_lasting _ (LastsOn (left_since (disk_in d.after))) f.0 (opening_hall new.opening.world new.opening.logged) first [] new.seen (λ since n batches was. was.lasts) f.3 })
+
+  pub given_carries : tells crashes seen handed ≡ true → IfSome given (λ p. Carries Found (left_since p.0) (moment handed))
+  given_carries told = by given gives
+    where
+      by : (given : Option (D × CallOutcome)) → GivesOut crashes seen images moment left_since faults d.before given d.after → IfSome given (λ p. Carries Found (left_since p.0) (moment handed))
+      by None g = tt
+      by (Some p) g = subst (λ (x : D). Carries Found (left_since x) (moment handed)) g.2 (λ before earlier was. (d.stands.carried told before earlier was).lasts)
 
   pub given_generation : tells crashes seen handed ≡ true → IfSome given (λ p. p.1 ≡ called.Ok → (s : Sides) → seen p.0 ≡ Some s → LeavesGeneration new.opening first new.seen (opened_generation s))
   given_generation told = by given gives

@@ -1,11 +1,12 @@
 -- How a core goes on standing for its history, act by act and turn by turn.
-use Rattle.std.proofs.Common.{◌≡◌, ◌≤◌, ◌<◌, ◌⊎◌, ◌||◌, ℕ, Bool, true, false, List, [], ◌∷◌, ◌++◌, map, min, refl, sym, ap, ◌∙◌, subst, arith, inl, inr, true≢false, append_assoc, append-nil}
+use Rattle.std.proofs.Common.{◌≡◌, ◌≤◌, ◌<◌, ◌⊎◌, ◌||◌, ℕ, Bool, true, false, List, [], ◌∷◌, ◌++◌, map, min, refl, sym, ap, ◌∙◌, subst, arith, inl, inr, true≢false, append_assoc, append-nil, ⊎_elim}
 use Rattle.std.specs.Prelude.{◌-◌, ◌^◌, nat_le}
 use Rattle.std.proofs.lemmas.Bool.Decides.{nat_tests}
 use Rattle.std.specs.List.{list_any}
 use Rattle.std.proofs.lemmas.List.Folds.{list_any-append}
 use Rattle.byte_text.specs.Names.{Bytes}
 use Rattle.outside.specs.Causes.{Rose, most_count}
+use Rattle.outside.specs.Crashes.{EachSince}
 use Rattle.outside.specs.Sides.{Sides}
 use Rattle.world_model.specs.Halls.{Hall}
 use Rattle.world_model.specs.Histories.{gives_disk, is_rewrite, opening_hall}
@@ -14,6 +15,8 @@ use Rattle.world_model.specs.declared.events.Event.{Event}
 use Rattle.world_model.specs.declared.events.Event.TheVariants.{Enter, Call, Take, Tick, Close, Remove, Rewrite, Retire}
 use Rattle.world_model.specs.declared.events.Entry.{Entry}
 use Rattle.world_model.specs.declared.events.Opening.{Opening}
+use Rattle.journal.specs.Growing.{grows_none, grows_on}
+use Rattle.journal.specs.Logs.{Grows, HasGrown}
 use Rattle.log_record.specs.Journals.{Journal, is_retire}
 use Rattle.log_record.specs.Laws.{Stood}
 use Rattle.log_record.specs.Safety.{moment_after, count_after, out_after, ComesNext}
@@ -21,10 +24,10 @@ use Rattle.log_record.specs.Acknowledged.{moment_last, count_last}
 use Rattle.log_record.specs.LeadingLaws.{leads_on}
 use Rattle.durable_core.specs.Histories.{Writing, Writes}
 use Rattle.durable_core.specs.Written.{Sided}
-use Rattle.shared_hall.specs.Fed.{AreAllWhole, AreFed, IsNoted}
+use Rattle.shared_hall.specs.Fed.{AreAllWhole, AreFed, GrewFrom, IsNoted, WereTold}
 use Rattle.shared_hall.specs.Times.{Time, time_of, entry_at, entries_at, noted_at, is_retirement}
-use Rattle.shared_hall.specs.Standing.{IsAct, IsLast, FeedsOn, FrontBy, TurnBy, Stands}
-use Rattle.shared_hall.proofs.Feeding.{fed_last, fed_more, fed_raised, last_more, last_still, went_on, whole_more, with_log}
+use Rattle.shared_hall.specs.Standing.{IsAct, IsCarried, IsLast, FeedsOn, FrontBy, TurnBy, Stands}
+use Rattle.shared_hall.proofs.Feeding.{fed_last, fed_lasting, fed_more, fed_raised, told_more, last_more, last_still, went_on, whole_more, with_log}
 use Rattle.shared_hall.proofs.Raising.{ArePlain, Raises, raised, raise_reaches, raise_stood, raised_past}
 use Rattle.shared_hall.proofs.Writes.{acts_last, raised_acts, writes_last}
 
@@ -116,7 +119,9 @@ entries_end begun ended note (a ∷ []) last = refl
 entries_end begun ended note (a ∷ b ∷ front) last = ap (λ (l : List Entry). entry_at begun a ∷ l) (entries_end begun ended note (b ∷ front) last)
 
 module _ {S D : Type 0} (hall : S → Hall) (writing : S → Writing) (disk : S → D) (is_out : S → Bool) (is_log : S → Journal → Type 0)
-    (is_sided : S → Sided → Type 0) (crashes : D → Bool) (images : D → Sides → Type 0) (moment : D → ℕ) (left_since : D → ℕ → Sides → Type 0) (faults : D → ℕ) (first : Writing) where
+    (is_sided : S → Sided → Type 0) (crashes : D → Bool) (images : D → Sides → Type 0) (moment : D → ℕ) (left_since : D → ℕ → Sides → Type 0) (faults : D → ℕ) (first : Writing) (begun : ℕ) (found : ℕ → List Bytes → Type 0)
+    (once : (s : S) → (hall s).stopped ≡ false → (t u : Sided) → is_sided s t → is_sided s u → t.batches ≡ u.batches)
+    (left_now : (s : S) → (hall s).stopped ≡ false → crashes (disk s) ≡ true → (t : Sided) → is_sided s t → EachSince left_since (disk s) (moment (disk s)) (HasGrown (writing s).generation t.batches)) where
   abbrev Acted : S → S → Act → Bytes → Type 0
   Acted = IsAct hall writing disk is_out is_log is_sided crashes images moment left_since faults
 
@@ -124,7 +129,10 @@ module _ {S D : Type 0} (hall : S → Hall) (writing : S → Writing) (disk : S 
   Fronted = FrontBy hall writing disk is_out is_log is_sided crashes images moment left_since faults
 
   abbrev StandsAt : Bool → S → Opening → List Entry → Type 0
-  StandsAt told = Stands hall writing disk is_out is_log is_sided crashes images moment left_since faults told first
+  StandsAt told = Stands hall writing disk is_out is_log is_sided crashes images moment left_since faults begun found told first
+
+  abbrev Carried : S → ℕ → ℕ → List Bytes → Type 0
+  Carried = IsCarried hall writing disk is_out is_log is_sided crashes images moment left_since faults
 
   abbrev time : Bool → S → Time
   time told s = time_of moment faults told (disk s)
@@ -161,7 +169,41 @@ module _ {S D : Type 0} (hall : S → Hall) (writing : S → Writing) (disk : S 
       (act.told ∙ k.0, (next.0, next.1, next.3 o log (noted_at (time true t) a note) k.1.2 refl refl refl (follows true s t o log a note stands act)))
 
   abbrev FedAt : S → Opening → List Entry → Type 0
-  FedAt s o log = (logs : ℕ → List Bytes) × AreAllWhole logs × AreFed logs (opening_hall o.world o.logged) first [] log × ((hall s).stopped ≡ false → IsLast logs (writing s).generation (is_sided s))
+  FedAt s o log = (logs : ℕ → List Bytes) × AreAllWhole logs × WereTold (GrewFrom found) logs × AreFed (Carried s) logs (opening_hall o.world o.logged) first [] log
+      × ((hall s).stopped ≡ false → IsLast logs (writing s).generation (is_sided s))
+
+  -- what was carried so far an act carries on
+  carried_on : (s t : S) (a : Act) (note : Bytes) → Acted s t a note → crashes (disk s) ≡ true → (j : Journal) → is_log s j → ((hall s).stopped ≡ false → (l : Sided) × is_sided s l)
+      → (since g : ℕ) (batches : List Bytes) → Carried s since g batches → Carried t since g batches
+  carried_on s t a note act crash j log sides since g batches was =
+      let left = act.left j log crash g batches (λ going. let l = sides going in (l.0, l.1, was.now going l.0 l.1)) in
+      record {
+        past = let past = was.past in let later = left.later in omega (arith, past, later);
+        lasts = λ image at. ⊎_elim (λ before. was.lasts image before) (λ has. has) (left.either since image was.past at);
+        now = λ going u keeps.
+            let on = went_on (hall s) (hall t) a.0 a.1 act.step going in
+            let l = sides on in
+            let x = act.fed going j log l.0 l.1 in
+            subst (λ (b : List Bytes). Grows g (writing t).generation batches b) (once t going x.sides u x.keeps keeps)
+            (grows_on g (writing s).generation (writing t).generation batches l.0.batches x.sides.batches (was.now on l.0 l.1) x.grows);
+      }
+
+  -- what the log has now is carried from now on
+  now_carried : (told : Bool) (t : S) → (hall t).stopped ≡ false → crashes (disk t) ≡ true → (u : Sided) → is_sided t u → told ≡ true → Carried t (time told t).moment (writing t).generation u.batches
+  now_carried false t going crash u keeps is = absurd (true≢false (sym is))
+  now_carried true t going crash u keeps is = record {
+    past = omega arith;
+    lasts = left_now t going crash u keeps;
+    now = λ _ v kept. subst (λ (b : List Bytes). Grows (writing t).generation (writing t).generation u.batches b) (once t going u v keeps kept) (grows_none (writing t).generation u.batches);
+  }
+
+  -- of the log of a state that stands
+  carry : (told : Bool) (s t : S) (o : Opening) (log : List Entry) (a : Act) (note : Bytes) → StandsAt told s o log → Acted s t a note → told ≡ true
+      → (since g : ℕ) (batches : List Bytes) → Carried s since g batches → Carried t since g batches
+  carry told s t o log a note stands act is =
+      let k = stands.kept is in
+      let f = stands.fed is in
+      carried_on s t a note act k.0 k.1.0 k.1.1 (λ going. let l = f.4 going in (l.sides, l.keeps))
 
   fed_next : (told : Bool) (s t : S) (o : Opening) (log : List Entry) (a : Act) (note : Bytes) → StandsAt told s o log → Acted s t a note
       → Writes (opening_hall o.world o.logged) first (map act_of log ++ a ∷ []) (hall t) (writing t) → told ≡ true → FedAt t o (log ++ noted_at (time told t) a note ∷ [])
@@ -172,31 +214,43 @@ module _ {S D : Type 0} (hall : S → Hall) (writing : S → Writing) (disk : S 
       none_noted stops (inr goes) = absurd (true≢false (sym stops ∙ goes.1))
 
       -- where the hall goes on
-      goes_on : (f : FedAt s o log) (l : IsLast f.0 (writing s).generation (is_sided s)) (x : FeedsOn hall writing is_sided s t note l.sides) → (note ≡ []) ⊎ IsNoted (writing t).generation (hall t).world x.sides.batches note
-          → FedAt t o (log ++ noted_at (time told t) a note ∷ [])
-      goes_on f l x (inl none) = (
+      goes_on : (hall s).stopped ≡ false → (hall t).stopped ≡ false → (f : FedAt s o log) (l : IsLast f.0 (writing s).generation (is_sided s)) (x : FeedsOn hall writing is_sided s t note l.sides)
+          → (note ≡ []) ⊎ IsNoted (writing t).generation (hall t).world x.sides.batches note → FedAt t o (log ++ noted_at (time told t) a note ∷ [])
+      goes_on on going f l x (inl none) = (
         f.0,
         f.1,
-        fed_last f.0 (opening_hall o.world o.logged) first [] log (noted_at (time told t) a note) f.2 (inl none),
+        f.2,
+        fed_last (Carried t) f.0 (opening_hall o.world o.logged) first [] log (noted_at (time told t) a note)
+            (fed_lasting (Carried s) (Carried t) f.0 (opening_hall o.world o.logged) first [] log (carry told s t o log a note stands act is) f.3) (inl none),
         λ _. last_still f.0 (writing s).generation (writing t).generation l.sides.batches x.sides.batches l.here l.none x.grows x.sides (is_sided t) refl x.keeps,
       )
-      goes_on f l x (inr noted) = (
+      goes_on on going f l x (inr noted) = (
         with_log (writing t).generation x.sides.batches f.0,
         whole_more f.0 (writing s).generation (writing t).generation l.sides.batches x.sides.batches l.here l.none x.grows f.1 noted.given.makes.whole,
-        fed_more f.0 (writing s).generation (writing t).generation l.sides.batches x.sides.batches l.here l.none x.grows (opening_hall o.world o.logged) first log (noted_at (time told t) a note) (hall t) (writing t) refl f.2 writes noted,
+        told_more f.0 (writing s).generation (writing t).generation l.sides.batches x.sides.batches l.here l.none x.grows (GrewFrom found)
+            (λ before earlier was. grows_on before (writing s).generation (writing t).generation earlier l.sides.batches x.sides.batches ((stands.carried is before earlier was).now on l.sides l.keeps) x.grows) f.2,
+        fed_more f.0 (writing s).generation (writing t).generation l.sides.batches x.sides.batches l.here l.none x.grows (Carried s) (Carried t) (opening_hall o.world o.logged) first log (noted_at (time told t) a note) (hall t) (writing t) refl
+            (carry told s t o log a note stands act is) f.3 writes noted (now_carried told t going (act.told ∙ (stands.kept is).0) x.sides x.keeps is),
         λ _. last_more f.0 (writing s).generation (writing t).generation l.sides.batches x.sides.batches l.here l.none x.grows x.sides (is_sided t) refl x.keeps,
       )
 
       by : (b : Bool) → (hall t).stopped ≡ b → FedAt t o (log ++ noted_at (time told t) a note ∷ [])
       by true stops =
-          let f = stands.fed is in
-          (f.0, f.1, fed_last f.0 (opening_hall o.world o.logged) first [] log (noted_at (time told t) a note) f.2 (inl (none_noted stops act.noted)), λ going. absurd (true≢false (sym stops ∙ going)))
+          let f = stands.fed is in (
+            f.0,
+            f.1,
+            f.2,
+            fed_last (Carried t) f.0 (opening_hall o.world o.logged) first [] log (noted_at (time told t) a note)
+                (fed_lasting (Carried s) (Carried t) f.0 (opening_hall o.world o.logged) first [] log (carry told s t o log a note stands act is) f.3) (inl (none_noted stops act.noted)),
+            λ going. absurd (true≢false (sym stops ∙ going)),
+          )
       by false going =
           let f = stands.fed is in
           let k = stands.kept is in
-          let l = f.3 (went_on (hall s) (hall t) a.0 a.1 act.step going) in
+          let on = went_on (hall s) (hall t) a.0 a.1 act.step going in
+          let l = f.4 on in
           let x = act.fed going k.1.0 k.1.1 l.sides l.keeps in
-          goes_on f l x x.noted
+          goes_on on going f l x x.noted
 
   -- one act more
   pub one_more : (told : Bool) (s t : S) (o : Opening) (log : List Entry) (a : Act) (note : Bytes) → StandsAt told s o log → Acted s t a note → StandsAt told t o (log ++ noted_at (time told t) a note ∷ [])
@@ -212,6 +266,7 @@ module _ {S D : Type 0} (hall : S → Hall) (writing : S → Writing) (disk : S 
         out = act.out ∙ ap (λ (b : Bool). b || is_retire a.0) stands.out ∙ sym (list_any-append is_retirement log (e ∷ []) ∙ ap (λ (b : Bool). list_any is_retirement log || b) (one (is_retire a.0)));
         still = λ _. (moment_last o.moment log e, count_last o.count log e);
         kept = kept_more told s t o log a note stands act;
+        carried = λ is before earlier was. carry told s t o log a note stands act is begun before earlier (stands.carried is before earlier was);
         fed = fed_next told s t o log a note stands act writes;
       }
     where
@@ -278,22 +333,23 @@ module _ {S D : Type 0} (hall : S → Hall) (writing : S → Writing) (disk : S 
           out = own.stands.out ∙ list_any-append is_retirement log es ∙ ap (λ (b : Bool). list_any is_retirement log || b) (sym (raised_retired u es)) ∙ sym (list_any-append is_retirement log (map (raised u) es));
           still = λ is. (ended_moment u log es o.moment (own.stands.still is).0, ended_count u log es o.count (own.stands.still is).1);
           kept = kept_raised told t o log es own.stands raises;
-          fed = λ is. let f = own.stands.fed is in (f.0, f.1, fed_raised u f.0 (opening_hall o.world o.logged) first [] log es f.2, f.3);
+          carried = own.stands.carried;
+          fed = λ is. let f = own.stands.fed is in (f.0, f.1, f.2, fed_raised u (Carried t) f.0 (opening_hall o.world o.logged) first [] log es f.3, f.4);
         })
 
     -- a turn
-    pub turn_stands : (told : Bool) (acts : List Act) (note : Bytes) (begun : D) (s t : S) (o : Opening) (log : List Entry) → StandsAt told s o log
-        → TurnBy hall writing disk is_out is_log is_sided crashes images moment left_since faults acts note begun s t
-        → StandsAt told t o (log ++ entries_at (time_of moment faults told begun) (time told t) note acts)
-    turn_stands told acts note begun s t o log stands (inl none) =
-        subst (λ (l : List Act). StandsAt told t o (log ++ entries_at (time_of moment faults told begun) (time told t) note l)) (sym none.0)
+    pub turn_stands : (told : Bool) (acts : List Act) (note : Bytes) (at : D) (s t : S) (o : Opening) (log : List Entry) → StandsAt told s o log
+        → TurnBy hall writing disk is_out is_log is_sided crashes images moment left_since faults acts note at s t
+        → StandsAt told t o (log ++ entries_at (time_of moment faults told at) (time told t) note acts)
+    turn_stands told acts note at s t o log stands (inl none) =
+        subst (λ (l : List Act). StandsAt told t o (log ++ entries_at (time_of moment faults told at) (time told t) note l)) (sym none.0)
         (subst (λ (l : List Entry). StandsAt told t o l) (sym (append-nil log)) (subst (λ (x : S). StandsAt told x o log) (sym none.1) stands))
-    turn_stands told acts note begun s t o log stands (inr e) =
+    turn_stands told acts note at s t o log stands (inr e) =
         let mid = e.mid in
         let front = front_stands told e.front s mid o log stands e.made in
         let all = one_more told mid t o (log ++ map (entry_at (time told mid)) e.front) e.last note front e.act in
-        let began : time_of moment faults told begun ≡ time told mid = ap (λ (d : D). time_of moment faults told d) e.began in
-        subst (λ (l : List Act). StandsAt told t o (log ++ entries_at (time_of moment faults told begun) (time told t) note l)) (sym e.are)
+        let began : time_of moment faults told at ≡ time told mid = ap (λ (d : D). time_of moment faults told d) e.began in
+        subst (λ (l : List Act). StandsAt told t o (log ++ entries_at (time_of moment faults told at) (time told t) note l)) (sym e.are)
         (subst (λ (u : Time). StandsAt told t o (log ++ entries_at u (time told t) note (e.front ++ e.last ∷ []))) (sym began)
         (subst (λ (l : List Entry). StandsAt told t o (log ++ l)) (sym (entries_end (time told mid) (time told t) note e.front e.last))
         (subst (λ (l : List Entry). StandsAt told t o l) (append_assoc log (map (entry_at (time told mid)) e.front) (noted_at (time told t) e.last note ∷ [])) all)))

@@ -1,6 +1,7 @@
 -- A core that takes turns: its hall and its disk, while the disk is in and when it was given out.
 use Rattle.std.specs.Prelude.{◌≡◌, ◌&&◌, ℕ, Bool, true, false, not, List, [], Option, is_some}
 use Rattle.byte_text.specs.Names.{Bytes}
+use Rattle.outside.specs.Crashes.{LeavesOnly}
 use Rattle.outside.specs.Sides.{Sides}
 use Rattle.world_data.specs.Sound.{IsSoundWorld}
 use Rattle.world_model.specs.Halls.{Hall}
@@ -10,14 +11,16 @@ use Rattle.world_model.specs.declared.events.Entry.{Entry}
 use Rattle.world_model.specs.declared.events.LogState.{LogState}
 use Rattle.world_model.specs.declared.events.Opening.{Opening}
 use Rattle.journal.specs.Journals.{log_bytes}
+use Rattle.journal.specs.Logs.{HasGrown}
 use Rattle.log_record.specs.Journals.{Journal}
 use Rattle.log_record.specs.Laws.{Stood}
 use Rattle.durable_core.specs.Kept.{settled_log}
 use Rattle.durable_core.specs.Logged.{hall_of, disk_of, KeepsLogOf}
 use Rattle.durable_core.specs.Histories.{Writing, writing_of}
 use Rattle.durable_core.specs.Rewriting.{is_idle}
-use Rattle.durable_core.specs.Written.{KeepsSided, Sided}
+use Rattle.durable_core.specs.Written.{KeepsGrown, KeepsSided, Sided}
 use Rattle.durable_core.specs.declared.cores.DurableCore.{DurableCore}
+use Rattle.shared_hall.specs.Fed.{IsFound}
 use Rattle.shared_hall.specs.Times.{Time, time_of}
 use Rattle.shared_hall.specs.Standing.{IsAct, FrontBy, TurnBy, Stands}
 use Rattle.shared_hall.specs.declared.places.Place.{Place}
@@ -88,9 +91,10 @@ module _ {D : Type 0} (crashes : D → Bool) (seen : D → Option Sides) (images
   TurnsBy = TurnBy hall_in writing_in disk_in has_left (KeepsIn crashes seen images) (SidedIn crashes seen images) crashes images moment
       left_since faults
 
-  abbrev pub StandsIn : Bool → Writing → Place D → Opening → List Entry → Type 0
-  StandsIn = Stands hall_in writing_in disk_in has_left (KeepsIn crashes seen images) (SidedIn crashes seen images) crashes images moment
-      left_since faults
+  -- over the disk that was handed in
+  abbrev pub StandsIn : D → Bool → Writing → Place D → Opening → List Entry → Type 0
+  StandsIn handed = Stands hall_in writing_in disk_in has_left (KeepsIn crashes seen images) (SidedIn crashes seen images) crashes images moment
+      left_since faults (moment handed) (IsFound (seen handed) (images handed))
 
   -- the time of a disk; what was told of the one that was handed in decides whether moments are counted
   abbrev pub time_with : D → D → Time
@@ -112,10 +116,10 @@ module _ {D : Type 0} (crashes : D → Bool) (seen : D → Option Sides) (images
   -- the value is as this history leaves it
   pub record StandsFor (h : HallCore D) (b : Begun D) (log : List Entry) : Type 0 where
     pub handed : h.handed.value ≡ b.disk
-    pub stands : StandsIn (tells crashes seen b.disk) (writing_of b.core) h.place b.opening log
+    pub stands : StandsIn b.disk (tells crashes seen b.disk) (writing_of b.core) h.place b.opening log
 
   -- A core as an opening gives it, over the disk that was handed in there: its hall opens with a sound world, and where that disk told its
-  -- contents and its crashes, the log stands with nothing pending.
+  -- contents and its crashes, the log stands with nothing pending, and grew from all from which that disk's log did.
   pub record IsOpenedOn (c : DurableCore D) (handed : D) : Type 0 where
     pub hall : hall_of c ≡ opening_hall (hall_of c).world (hall_of c).logged
     pub sound : IsSoundWorld (hall_of c).world
@@ -123,3 +127,7 @@ module _ {D : Type 0} (crashes : D → Bool) (seen : D → Option Sides) (images
     pub kept : tells crashes seen handed ≡ true → KeepsLogOf crashes seen images c (settled_log (hall_of c).world)
     pub stood : tells crashes seen handed ≡ true → (o : Opening) × (o.world ≡ (hall_of c).world) × (o.logged ≡ (hall_of c).logged)
         × Stood images moment left_since (disk_of c) o [] (hall_of c) (settled_log (hall_of c).world)
+    pub grown : tells crashes seen handed ≡ true → (before : ℕ) (earlier : List Bytes) → IsFound (seen handed) (images handed) before earlier
+        → KeepsGrown crashes seen images c.tail.journal before earlier
+    pub left : tells crashes seen handed ≡ true → (before : ℕ) (earlier : List Bytes) → IsFound (seen handed) (images handed) before earlier
+        → LeavesOnly moment left_since handed (disk_of c) (HasGrown before earlier)

@@ -1,6 +1,7 @@
 -- What followers of a hall show: the world of a beginning of its history, that ends where a part was given.
-use Rattle.std.specs.Prelude.{◌≡◌, ◌⊎◌, List, [], ◌∷◌, ◌++◌, map}
+use Rattle.std.specs.Prelude.{◌≡◌, ◌⊎◌, ℕ, List, [], ◌∷◌, ◌++◌, map}
 use Rattle.std.specs.List.{AllByRecursion, Contains}
+use Rattle.byte_text.specs.Names.{Bytes}
 use Rattle.world_model.specs.Halls.{Hall}
 use Rattle.world_model.specs.Histories.{opening_hall}
 use Rattle.world_model.specs.Seats.{Knows, act_of}
@@ -10,7 +11,7 @@ use Rattle.repl_stream.specs.declared.asks.Ask.{Ask}
 use Rattle.repl_node.specs.Deliveries.{AreAnswered, Delivery, HearsAll, ShowsNothing}
 use Rattle.repl_node.specs.Following.{Followed, IsRefused, first_node}
 use Rattle.durable_core.specs.Histories.{Writing, Writes}
-use Rattle.shared_hall.specs.Fed.{FeedsLogs, part_note}
+use Rattle.shared_hall.specs.Fed.{FeedsLogs, any_grown, any_lasting, part_note}
 
 -- one of these entries tells this part with its bytes by its note, and these stand in front of it and behind
 pub record IsTold (entries : List Entry) (d : Delivery) : Type 0 where
@@ -41,14 +42,17 @@ pub record ShowsHistory (first : Writing) (k : Knows) (parts : List Delivery) (n
 
 -- the parts that a history tells are answers of a leader with its logs, in the sense of the law of followers
 abbrev pub PartsAreAnswered : Type 0
-PartsAreAnswered = (first : Writing) (k : Knows) (f : FeedsLogs first k) (parts : List Delivery) → AreTold k.seen parts → AreAnswered f.logs parts
+PartsAreAnswered = (first : Writing) (k : Knows) (f : FeedsLogs any_lasting any_grown first k) (parts : List Delivery)
+    → AreTold k.seen parts → AreAnswered f.logs parts
 
 -- a node that has heard such parts refuses no other one for what it says
 abbrev pub FollowersTakeParts : Type 0
-FollowersTakeParts = (first : Writing) (k : Knows) (parts : List Delivery) (node : Followed) (next : Delivery) → FeedsLogs first k
+FollowersTakeParts = (first : Writing) (k : Knows) (parts : List Delivery) (node : Followed)
+    (next : Delivery) → FeedsLogs any_lasting any_grown first k
     → AreTold k.seen parts → HearsAll first_node parts node → IsTold k.seen next → IsRefused node next.part next.bytes → ⊥
 
 -- So a node that has heard any of them, in whatever order and how often, shows nothing, or the world of a beginning of the history.
 abbrev pub FollowersShowHistories : Type 0
-FollowersShowHistories = (first : Writing) (k : Knows) (parts : List Delivery) (node : Followed) → FeedsLogs first k → AreTold k.seen parts
+FollowersShowHistories = (first : Writing) (k : Knows) (parts : List Delivery) (node : Followed)
+    → FeedsLogs any_lasting any_grown first k → AreTold k.seen parts
     → HearsAll first_node parts node → ShowsNothing node ⊎ ShowsHistory first k parts node

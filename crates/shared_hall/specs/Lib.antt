@@ -6,3 +6,4 @@ pub mod OpeningLaws
 pub mod Turns
 pub mod Seats
 pub mod Followers
+pub mod Restarts

@@ -30,7 +30,7 @@ use Rattle.shared_hall.specs.declared.works.HallWork.{HallWork}
 use Rattle.shared_hall.specs.declared.works.HallAnswer.{HallAnswer}
 use Rattle.shared_hall.specs.declared.halls.SharedHall.{SharedHall}
 use Rattle.shared_hall.specs.Cores.{begun, core_in, hall_in, has_left, opening_with, tells, StandsIn}
-use Rattle.shared_hall.specs.Fed.{EndsNoted, FeedsLogs, part_note}
+use Rattle.shared_hall.specs.Fed.{EndsNoted, FeedsLogs, any_grown, any_lasting, part_note}
 use Rattle.shared_hall.specs.Turns.{acts, note_by, Gives}
 
 abbrev pub LockSeat : Type 0 → Type 0
@@ -91,8 +91,8 @@ module _ {D : Type 0} (crashes : D → Bool) (seen : D → Option Sides) (images
     pub noted : (begun : Time) × (ended : Time) × (adds.entries ≡ entries_at begun ended (note_by w out) (acts w out))
     pub names : (named : List ℕ) → NamesChanged named (hall_in before) (hall_in after)
         → NamesChangedBy new.opening (old.seen ++ adds.between) adds.entries named
-    pub stood : StandsIn crashes seen images moment left_since faults (tells crashes seen handed) first before new.opening (old.seen ++ adds.between)
-    pub stands : StandsIn crashes seen images moment left_since faults (tells crashes seen handed) first after new.opening new.seen
+    pub stood : StandsIn crashes seen images moment left_since faults handed (tells crashes seen handed) first before new.opening (old.seen ++ adds.between)
+    pub stands : StandsIn crashes seen images moment left_since faults handed (tells crashes seen handed) first after new.opening new.seen
     pub one : (h : Hall) → Reaches new.opening new.seen h → h ≡ hall_in after
     pub once : old.first ≡ true → list_any is_retirement old.seen ≡ has_left before
 
@@ -105,4 +105,4 @@ pub record AnswersAsk (told : Bool) (first : Writing) (k : Knows) (ask : Ask) (p
   pub is : told ≡ true → (h : Hall) → Reaches k.opening k.seen h → IsPartOfWorld ask generation h.world part bytes
   pub noted : EndsNoted k.seen (part_note ask part bytes)
   pub numbers : told ≡ true → IsAsk ask × IsPart part bytes
-  pub feeds : told ≡ true → FeedsLogs first k
+  pub feeds : told ≡ true → FeedsLogs any_lasting any_grown first k

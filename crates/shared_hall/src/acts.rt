@@ -26,8 +26,7 @@ use world_model::{Asked, CallOutcome, ChangedSessions, EnterFault, Frames, LogSt
 // The numbers of an ask are of 64 bits. It is the contract of a function that does nothing.
 fn ask_fits(_ask: Ask)
     ensures { IsAsk _ask }
-{
-}
+{}
 
 impl<D: Disk + Drop> HallCore<D> {
     // Notes where the core is before its next act.

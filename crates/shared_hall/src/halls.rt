@@ -16,7 +16,8 @@ ghost use Rattle.log_record.specs.Recovery.{Recovers};
 ghost use Rattle.log_record.specs.Safety.{Safe, count_after};
 ghost use Rattle.durable_core.specs.Histories.{LeavesGeneration};
 ghost use Rattle.shared_hall.specs.Cores.{tells, IsOpenedOn};
-ghost use Rattle.shared_hall.specs.Fed.{FeedsLogs};
+ghost use Rattle.shared_hall.specs.Fed.{FeedsLogs, GrewFrom, IsFound, LastsOn, any_grown, any_lasting};
+ghost use Rattle.shared_hall.specs.Restarts.{Carries};
 ghost use Rattle.shared_hall.specs.Seats.{IsOf, IsDone, knows_of, first_knows, first_writing, handed_of, opened_of};
 ghost use Rattle.shared_hall.specs.Times.{is_retirement};
 ghost use Rattle.shared_hall.specs.Turns.{retire_outcome, retires};
@@ -108,7 +109,7 @@ impl<D: Disk + Drop> SharedHall<D> {
     /// it was given out before. Where the disk told its contents and what a crash may leave, it is safe for all that
     /// the seat has seen then; and where all was made to stand, whatever a crash may leave is the world of that
     /// history, and the log there is of the generation that its rewritings lead to. All parts that followers were given
-    /// are then of logs that only grew, as the notes of their entries tell.
+    /// are then of logs that only grew, as the notes of their entries tell; and so is whatever a crash left since.
     pub fn retire<R: Wait>(&self, rt: &R, seat: &mut HallSeat<D>) -> Option<(D, CallOutcome)>
         requires seat { IsOf D.crashes D.seen D.images D.moment D.left_since D.faults self.now seat.old }
         requires first { (knows_of seat.old).first ≡ true }
@@ -131,7 +132,16 @@ impl<D: Disk + Drop> SharedHall<D> {
             → LeavesGeneration (knows_of seat.new).opening (first_writing self.now) (knows_of seat.new).seen
             (opened_generation s)) }
         ensures feeds { tells D.crashes D.seen (handed_of self.now) ≡ true
-            → FeedsLogs (first_writing self.now) (knows_of seat.new) }
+            → FeedsLogs any_lasting any_grown (first_writing self.now) (knows_of seat.new) }
+        ensures lasts { tells D.crashes D.seen (handed_of self.now) ≡ true
+            → IfSome result
+            (λ given. FeedsLogs (LastsOn (D.left_since given.0))
+            (GrewFrom (IsFound (D.seen (handed_of self.now)) (D.images (handed_of self.now))))
+            (first_writing self.now) (knows_of seat.new)) }
+        ensures carries { tells D.crashes D.seen (handed_of self.now) ≡ true
+            → IfSome result
+            (λ given. Carries (IsFound (D.seen (handed_of self.now)) (D.images (handed_of self.now)))
+            (D.left_since given.0) (D.moment (handed_of self.now))) }
     {
         match self.turn(rt, seat, HallWork::Retire) {
             HallAnswer::Retired(given) => given,

@@ -1,7 +1,9 @@
-//! What followers of a hall show. It is the contract of a function that does nothing.
+//! What followers of a hall show. Each is the contract of a function that does nothing.
 
 ghost use Rattle.shared_hall.specs.Followers.{FollowersShowHistories, FollowersTakeParts, PartsAreAnswered};
+ghost use Rattle.shared_hall.specs.Restarts.{FollowersOutlive, FollowersTakeLives, HistoriesAreLives};
 
+use outside::Disk;
 use repl_node::followers_show_beginnings;
 use repl_stream::stream_laws;
 
@@ -16,3 +18,18 @@ pub fn followers_show_histories()
     followers_show_beginnings();
     stream_laws();
 }
+
+/// The same of a leader that starts anew, over and over, each time on what a crash left of its disk: parts of all its
+/// lives are of logs that only grew.
+pub fn followers_outlive_leaders()
+    ensures shown { FollowersOutlive }
+    ensures taken { FollowersTakeLives }
+{
+    followers_show_beginnings();
+    stream_laws();
+}
+
+/// The history of a hall over a disk is a life of such a leader.
+pub fn histories_are_lives<D: Disk>()
+    ensures { HistoriesAreLives D.seen D.images D.left_since }
+{}

@@ -11,6 +11,6 @@ mod values;
 mod works;
 
 pub use halls::{HallSeat, SharedHall};
-pub use laws::followers_show_histories;
+pub use laws::{followers_outlive_leaders, followers_show_histories, histories_are_lives};
 pub use places::{Begun, HallCore, Place};
 pub use works::{Asking, HallAnswer, HallWork, Taking, Ticking};

@@ -36,7 +36,8 @@ use Rattle.serve_run.specs.LoopServes.{ServesLoop}
 use Rattle.outside.specs.Doors.{DoorState}
 use Rattle.outside.specs.Waits.{WaitState}
 use Rattle.world_model.specs.declared.events.Opening.{Opening}
-use Rattle.shared_hall.specs.Fed.{FeedsLogs}
+use Rattle.shared_hall.specs.Fed.{FeedsLogs, GrewFrom, IsFound, LastsOn, any_grown, any_lasting}
+use Rattle.shared_hall.specs.Restarts.{Carries}
 use Rattle.shared_hall.specs.Seats.{AnswersAsk}
 use Rattle.shared_hall.specs.Times.{is_retirement}
 use Rattle.shared_hall.specs.Turns.{retire_outcome}
@@ -191,15 +192,20 @@ counts_as {D} faults handed old new (Some p) given is same begun counted =
     }
 
 -- the disk that a retirement gave
-pub given_left : {D : Type 0} (images : D → Sides → Type 0) (left_since : D → ℕ → Sides → Type 0) (old new : Knows) (r : Option (D × CallOutcome)) (given : D × CallOutcome) → r ≡ Some given → Adds event.Retire (retire_outcome r) old new
+pub given_left : {D : Type 0} (seen : D → Option Sides) (images : D → Sides → Type 0) (moment : D → ℕ) (left_since : D → ℕ → Sides → Type 0) (handed : D) (first : Writing) (old new : Knows) (r : Option (D × CallOutcome)) (given : D × CallOutcome) → r ≡ Some given → Adds event.Retire (retire_outcome r) old new
     → IfSome r (λ p. Safe left_since p.0 new.opening new.seen)
-    → IfSome r (λ p. p.1 ≡ called.Ok → (h : Hall) → Reaches new.opening new.seen h → EachImage (images p.0) (λ image. Recovers image h.world)) → IsLeft images left_since given.0 new
-given_left images left_since old new None given is adds safe stands = absurd (cc)
-given_left {D} images left_since old new (Some p) given is adds safe stands =
+    → IfSome r (λ p. p.1 ≡ called.Ok → (h : Hall) → Reaches new.opening new.seen h → EachImage (images p.0) (λ image. Recovers image h.world))
+    → IfSome r (λ p. FeedsLogs (LastsOn (left_since p.0)) (GrewFrom (IsFound (seen handed) (images handed))) first new)
+    → IfSome r (λ p. Carries (IsFound (seen handed) (images handed)) (left_since p.0) (moment handed)) → IsLeft seen images moment left_since handed given.0 new
+given_left seen images moment left_since handed first old new None given is adds safe stands lasts carries = absurd (cc)
+given_left {D} seen images moment left_since handed first old new (Some p) given is adds safe stands lasts carries =
     let same : p ≡ given = cc in
-    subst (λ (x : D × CallOutcome). IsLeft images left_since x.0 new) same (record {
+    subst (λ (x : D × CallOutcome). IsLeft seen images moment left_since handed x.0 new) same (record {
       safe = safe;
       settled = λ s. stands (retired_ok old new p.1 adds s);
+      first = first;
+      lasts = lasts;
+      carries = carries;
     })
 
 -- and how far its log was rewritten then
@@ -231,7 +237,7 @@ opened_as {D} core c s same idle generation =
 pub fronts_behind : {F : Type 0} (shows : F → Knows) (tell : Bool) (seen : Option Sides) (writing : Writing) (told : Option ℕ) (s : Serve) (first served : Knows) (door door' : DoorState) (wait wait' : WaitState) (held between held' : Option Bytes) (before status : ℕ) (front : Option F)
     → IsFirst seen first → ((sides : Sides) → seen ≡ Some sides → writing ≡ opened_writing sides) → ServesLoop told (AnswersAsk tell writing) s (around first door wait) (around served door' wait') held between before
     → IfSome (option_map shows front) (λ k. IsRetired served k between held' before status)
-    → (tell ≡ true → IfSome (option_map shows front) (FeedsLogs writing)) → IfSome (option_map shows front) (ServesFront tell seen told s door door' wait wait' held held' status)
+    → (tell ≡ true → IfSome (option_map shows front) (FeedsLogs any_lasting any_grown writing)) → IfSome (option_map shows front) (ServesFront tell seen told s door door' wait wait' held held' status)
 fronts_behind shows tell seen writing told s first served door door' wait wait' held between held' before status None f b v r fed = tt
 fronts_behind shows tell seen writing told s first served door door' wait wait' held between held' before status (Some x) f b v r fed =
     record { first = first; is_first = f; writing = writing; begun = b; served = served; between = between; before = before; serves = v; retired = r; fed = fed }

@@ -25,7 +25,8 @@ use Rattle.serve_run.specs.Loops.{around}
 use Rattle.serve_run.specs.LoopServes.{ServesLoop}
 use Rattle.outside.specs.Doors.{DoorState}
 use Rattle.outside.specs.Waits.{WaitState}
-use Rattle.shared_hall.specs.Fed.{FeedsLogs}
+use Rattle.shared_hall.specs.Fed.{FeedsLogs, GrewFrom, IsFound, LastsOn, any_grown, any_lasting}
+use Rattle.shared_hall.specs.Restarts.{Carries}
 use Rattle.shared_hall.specs.Seats.{AnswersAsk}
 use Rattle.shared_hall.specs.Times.{is_retirement}
 use Rattle.replay_run.specs.Openings.{Opens, IsDamagedAt}
@@ -81,10 +82,15 @@ pub record IsCounted (handed given : ℕ) (k : Knows) : Type 0 where
   pub last : count_after k.opening.count k.seen ≡ min given most_count
 
 -- A disk that was given out is safe for all that a seat has seen. Where the last of that is a retirement that was answered Ok, whatever a
--- crash leaves is the world of all of it.
-pub record IsLeft {D : Type 0} (images : D → Sides → Type 0) (left_since : D → ℕ → Sides → Type 0) (disk : D) (k : Knows) : Type 0 where
+-- crash leaves is the world of all of it. Whatever a crash might have left since a part was given to a follower holds a log that grew from the
+-- one of that part; and since the disk was handed in, one that grew from what its log grew from then.
+pub record IsLeft {D : Type 0} (seen : D → Option Sides) (images : D → Sides → Type 0) (moment : D → ℕ) (left_since : D → ℕ → Sides → Type 0)
+    (handed disk : D) (k : Knows) : Type 0 where
   pub safe : Safe left_since disk k.opening k.seen
   pub settled : IsSettled k.seen → (h : Hall) → Reaches k.opening k.seen h → EachImage (images disk) (λ image. Recovers image h.world)
+  pub first : Writing
+  pub lasts : FeedsLogs (LastsOn (left_since disk)) (GrewFrom (IsFound (seen handed) (images handed))) first k
+  pub carries : Carries (IsFound (seen handed) (images handed)) (left_since disk) (moment handed)
 
 -- How far the log of a disk is rewritten where it was opened: not at all, and it is of the generation that was found, or of the next one where
 -- its version was an older one.
@@ -117,7 +123,7 @@ pub record ServesFront (tell : Bool) (seen : Option Sides) (told : Option ℕ) (
   pub before : ℕ
   pub serves : ServesLoop told (AnswersAsk tell writing) s (around first door wait) (around served door' wait') held between before
   pub retired : IsRetired served k between held' before status
-  pub fed : tell ≡ true → FeedsLogs writing k
+  pub fed : tell ≡ true → FeedsLogs any_lasting any_grown writing k
 
 -- by what the server's seat has seen, where a hall was made
 abbrev pub Fronts : Bool → Option Sides → (Halt → Type 0) → Option ℕ → Serve → DoorState → DoorState → WaitState → WaitState → Option Bytes

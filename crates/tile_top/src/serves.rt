@@ -10,7 +10,7 @@ ghost use Rattle.journal.specs.declared.openings.OpenFault.TheVariants as fault_
 ghost use Rattle.log_record.specs.Readings.{Damaged};
 ghost use Rattle.replay_run.specs.HandedBack.{IsBackAt, IsBackUnopened};
 ghost use Rattle.shared_hall.specs.Cores.{tells};
-ghost use Rattle.shared_hall.specs.Fed.{FeedsLogs};
+ghost use Rattle.shared_hall.specs.Fed.{FeedsLogs, any_grown, any_lasting};
 ghost use Rattle.shared_hall.specs.Seats.{IsOf, first_writing, handed_of, knows_of};
 ghost use Rattle.serve_run.specs.Words.{asked_of};
 ghost use Rattle.tile_top.specs.Fronts.{EndsBehind, Fronts, IsCounted, IsDue, IsFirst, IsLeft, IsRetired, IsRewritten, IsWrittenFrom};
@@ -90,9 +90,10 @@ fn retire_hall<K: Sink, D: Disk + Drop, R: Wait>(
         (λ k. IsRetired (knows_of seat) k (K.held sink.old) (K.held sink.new) before result.status) }
     ensures some { is_some result.front ≡ true }
     ensures fed { tells D.crashes D.seen (handed_of hall.now) ≡ true
-        → IfSome (option_map knows_of result.front) (FeedsLogs (first_writing hall.now)) }
+        → IfSome (option_map knows_of result.front) (FeedsLogs any_lasting any_grown (first_writing hall.now)) }
     ensures safe { tells D.crashes D.seen (handed_of hall.now) ≡ true
-        → IfSome result.front (λ last. IfSome result.disk (λ d. IsLeft D.images D.left_since d (knows_of last))) }
+        → IfSome result.front (λ last. IfSome result.disk (λ d. IsLeft D.seen D.images D.moment D.left_since (handed_of hall.now) d
+        (knows_of last))) }
     ensures rewritten { tells D.crashes D.seen (handed_of hall.now) ≡ true
         → IfSome result.front
         (λ last. IfSome result.disk (λ d. IsWrittenFrom D.seen (first_writing hall.now) d (knows_of last))) }
@@ -145,7 +146,8 @@ where
         (L.shows door.old) (L.shows door.new) (W.shows wait.old) (W.shows wait.new)
         (K.held sink.old) (K.held sink.new) result.status) }
     ensures safe { tells D.crashes D.seen (handed_of hall.now) ≡ true
-        → IfSome result.front (λ last. IfSome result.disk (λ d. IsLeft D.images D.left_since d (knows_of last))) }
+        → IfSome result.front (λ last. IfSome result.disk (λ d. IsLeft D.seen D.images D.moment D.left_since (handed_of hall.now) d
+        (knows_of last))) }
     ensures rewritten { tells D.crashes D.seen (handed_of hall.now) ≡ true
         → IfSome result.front
         (λ last. IfSome result.disk (λ d. IsWrittenFrom D.seen (first_writing hall.now) d (knows_of last))) }
@@ -193,7 +195,8 @@ where
         (L.shows door.old) (L.shows door.new) (W.shows wait.old) (W.shows wait.new)
         (K.held sink.old) (K.held sink.new) result.status (option_map knows_of result.front) }
     ensures safe { tells D.crashes D.seen disk ≡ true
-        → IfSome result.front (λ last. IfSome result.disk (λ d. IsLeft D.images D.left_since d (knows_of last))) }
+        → IfSome result.front (λ last. IfSome result.disk (λ d. IsLeft D.seen D.images D.moment D.left_since disk d
+        (knows_of last))) }
     ensures rewritten { tells D.crashes D.seen disk ≡ true
         → IfSome result.front (λ last. IfSome result.disk (λ d. IsRewritten D.seen disk d (knows_of last))) }
     ensures handed { result.front ≡ None → is_some result.disk ≡ true }

@@ -248,7 +248,8 @@ where
         (L.shows door.old) (L.shows door.new) (W.shows wait.old) (W.shows wait.new)
         (K.held sink.old) (K.held sink.new) result.status (option_map knows_of result.front)) }
     ensures safe { tells D.crashes D.seen disk ≡ true
-        → IfSome result.front (λ last. IfSome result.disk (λ d. IsLeft D.images D.left_since d (knows_of last))) }
+        → IfSome result.front (λ last. IfSome result.disk (λ d. IsLeft D.seen D.images D.moment D.left_since disk d
+        (knows_of last))) }
     ensures rewritten { tells D.crashes D.seen disk ≡ true
         → IfSome result.front (λ last. IfSome result.disk (λ d. IsRewritten D.seen disk d (knows_of last))) }
     ensures given { IfSome result.front (λ last. IsDue (knows_of last).seen → is_some result.disk ≡ true) }

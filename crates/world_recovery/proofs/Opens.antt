@@ -52,6 +52,7 @@ opens crashes seen moment left_since old new r v kept replayed =
       batches = batches;
       whole = replayed.whole;
       world_is = is;
+      holds = replayed.holds;
       keeps = replayed.keeps;
       recovers = λ s told. subst (λ (w : World). Recovers s w) (sym is) (held_recovers v batches s replayed.whole (replayed.holds s told));
       since = λ s told crash.

@@ -6,6 +6,7 @@ use Rattle.outside.specs.Sides.{Sides}
 use Rattle.outside.specs.Crashes.{EachSince}
 use Rattle.world_data.specs.declared.worlds.World.{World}
 use Rattle.world_data.specs.declared.worlds.Change.TheVariants.{Put, SetChan}
+use Rattle.journal.specs.Logs.{HoldsLog}
 use Rattle.journal.specs.Openings.{AreWhole}
 use Rattle.log_record.specs.Words.{IsRecorded}
 use Rattle.log_record.specs.Recovery.{Recovers}
@@ -20,13 +21,14 @@ pub record RecoversSince {D : Type 0} (moment : D → ℕ) (left_since : D → �
   pub past : since ≤ moment new
   pub each : EachSince left_since new since (λ image. Recovers image world)
 
--- From a disk to a new one: the world is that of batches of whole records of a version, which are kept. Where the disk tells its contents the world is
--- the one that they are recovered as; where it tells crashes, so is whatever one leaves, from some moment on.
+-- From a disk to a new one: the world is that of batches of whole records of a version, which are kept. Where the disk tells its contents these hold the
+-- batches, and are recovered as the world; where it tells crashes, so is whatever one leaves, from some moment on.
 pub record IsOpened {D : Type 0} (crashes : D → Bool) (seen : D → Option Sides) (moment : D → ℕ) (left_since : D → ℕ → Sides
     → Type 0) (old new : D) (world : World) (version : ℕ) (kept : List Bytes → Type 0) : Type 0 where
   pub batches : List Bytes
   pub whole : AreWhole (record_fault version) batches
   pub world_is : world ≡ world_in version batches
+  pub holds : (s : Sides) → seen old ≡ Some s → HoldsLog version batches s
   pub keeps : (s : Sides) → seen old ≡ Some s → kept batches
   pub recovers : (s : Sides) → seen old ≡ Some s → Recovers s world
   pub since : (s : Sides) → seen old ≡ Some s → crashes old ≡ true → RecoversSince moment left_since old new world

@@ -4,8 +4,8 @@ use Rattle.log_sides.specs.Texts.{StandsFor}
 use Rattle.log_sides.specs.Making.{WhileShut}
 use Rattle.log_sides.specs.Torn.{new_heading}
 use Rattle.log_rewrite.specs.NewSides.{IsNewSide}
-use Rattle.journal.specs.Logs.{HoldsLog, IsBehind}
-use Rattle.journal.specs.Standing.{holds, not_open_behind}
+use Rattle.journal.specs.Logs.{HoldsOf, IsBehind}
+use Rattle.journal.specs.Standing.{holds_of, not_open_behind}
 use Rattle.journal.proofs.Steps.{kept_begun, leaves_beside, read_beside, if_ok_three}
 use Rattle.journal.proofs.disk_steps.begin_beside.Goals as goal
 
@@ -36,7 +36,7 @@ returns-clause-leaves g c batches copied kept told =
     let there = c.beside.result in
     let is : there ≡ other_side log.side = c.beside.ensures ∙ ap other_side c.side.ensures in
     let read = read_beside (D.crashes old) (D.seen old) (D.images old) log.side there log.generation is kept.beside in
-    leaves_beside D.crashes D.seen D.images D.moment D.left_since log.side there (WhileShut read.bytes) (StandsFor log.version log.generation batches) (HoldsLog log.version batches) old c.begin.new.disk told is kept.log.safe
+    leaves_beside D.crashes D.seen D.images D.moment D.left_since log.side there (WhileShut read.bytes) (StandsFor log.version log.generation batches) (HoldsOf log.version log.generation batches) old c.begin.new.disk told is kept.log.safe
     (c.begin.ensures.either read.bytes read.short read.reads)
-    (λ x stands left. holds x log.side log.version log.generation batches stands
+    (λ x stands left. holds_of x log.side log.version log.generation batches stands
     (⊎_elim (λ same. subst (IsBehind log.generation) (sym same) read.behind) (λ closed. not_open_behind log.generation (side_of x (other_side log.side)) closed) left))

@@ -3,8 +3,8 @@ use Rattle.outside.specs.Sides.{side_of, other_side}
 use Rattle.outside.specs.CrashLaws.{begins}
 use Rattle.log_sides.specs.Texts.{StandsFor, committed}
 use Rattle.log_sides.specs.Making.{IsShut}
-use Rattle.journal.specs.Logs.{HoldsLog}
-use Rattle.journal.specs.Standing.{holds, shut_behind}
+use Rattle.journal.specs.Logs.{HoldsOf}
+use Rattle.journal.specs.Standing.{holds_of, shut_behind}
 use Rattle.journal.proofs.Steps.{kept_copied, leaves_beside}
 use Rattle.journal.proofs.disk_steps.copy_records.Goals as goal
 
@@ -23,11 +23,11 @@ returns-in-Some-clause-leaves g c side version generation gate batches copied al
     let D = g.D.Disk in
     let r = c.in-Some.new_side in
     let kept = rw c.in-Some.is at all in
-    leaves_beside D.crashes D.seen D.images D.moment D.left_since side r.side IsShut (StandsFor version generation batches) (HoldsLog version batches) c.args.disk.now c.copy_piece.new.disk told kept.beside.beside kept.log.safe
+    leaves_beside D.crashes D.seen D.images D.moment D.left_since side r.side IsShut (StandsFor version generation batches) (HoldsOf version generation batches) c.args.disk.now c.copy_piece.new.disk told kept.beside.beside kept.log.safe
     (c.copy_piece.ensures.either kept.beside.new.shut)
-    (λ x stands shut. holds x side version generation batches stands (shut_behind generation (side_of x (other_side side)) shut))
+    (λ x stands shut. holds_of x side version generation batches stands (shut_behind generation (side_of x (other_side side)) shut))
 
 pub returns-in-None-clause-leaves : goal.returns-in-None-clause-leaves
 returns-in-None-clause-leaves g c side version generation gate batches copied all told =
     let D = g.D.Disk in
-    begins D.moment D.left_since c.args.disk.now (HoldsLog version batches)
+    begins D.moment D.left_since c.args.disk.now (HoldsOf version generation batches)

@@ -3,7 +3,7 @@ use Rattle.outside.specs.declared.sides.Side.{Side}
 use Rattle.log_sides.specs.Texts.{StandsFor, newest}
 use Rattle.log_sides.specs.States.{IsLog}
 use Rattle.log_rewrite.specs.NewSides.{ShutOrStands}
-use Rattle.journal.specs.Logs.{HoldsEither}
+use Rattle.journal.specs.Logs.{HoldsOrNew}
 use Rattle.journal.specs.Keeping.{IsKept}
 use Rattle.journal.specs.Standing.{holds_opened}
 use Rattle.journal.proofs.Steps.{kept_finished, leaves_beside, if_ok_three}
@@ -27,6 +27,6 @@ pub returns-clause-leaves : goal.returns-clause-leaves
 returns-clause-leaves g c side version generation gate batches copied kept told =
     let D = g.D.Disk in
     let r = c.args.rewriter in
-    leaves_beside D.crashes D.seen D.images D.moment D.left_since side r.side (ShutOrStands r.generation copied) (StandsFor version generation batches) (HoldsEither version batches newest copied) c.args.disk.now c.finish.new.disk told kept.beside.beside kept.log.safe
+    leaves_beside D.crashes D.seen D.images D.moment D.left_since side r.side (ShutOrStands r.generation copied) (StandsFor version generation batches) (HoldsOrNew version generation batches copied) c.args.disk.now c.finish.new.disk told kept.beside.beside kept.log.safe
     (c.finish.ensures.either copied kept.beside.new)
     (λ x stands left. holds_opened x side version generation r.generation batches copied kept.beside.next stands left)

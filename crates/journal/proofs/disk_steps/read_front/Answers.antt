@@ -3,8 +3,8 @@ use Rattle.byte_text.specs.Names.{Bytes}
 use Rattle.outside.specs.Sides.{side_of}
 use Rattle.log_sides.specs.Texts.{StandsFor}
 use Rattle.log_sides.specs.States.{ReadsAs}
-use Rattle.journal.specs.Logs.{HoldsLog}
-use Rattle.journal.specs.Standing.{holds}
+use Rattle.journal.specs.Logs.{HoldsOf}
+use Rattle.journal.specs.Standing.{holds_of}
 use Rattle.journal.specs.KeptLaws.{beside_holds}
 use Rattle.journal.proofs.Steps.{beside_stays, leaves_used}
 use Rattle.journal.proofs.disk_steps.read_front.Goals as goal
@@ -35,7 +35,7 @@ returns-clause-leaves g c rewriter batches copied kept told =
     let safe = kept.log.safe in
     let bytes = side_of safe.contents log.side in
     let was : ReadsAs D.crashes D.seen D.images old log.side bytes = record { contents = safe.contents; told = safe.told; has = refl; settled = safe.settled } in
-    leaves_used D.crashes D.seen D.images D.moment D.left_since log.side log.generation (λ (x : Bytes). x ≡ bytes) (HoldsLog log.version batches) old c.read.new.disk told
+    leaves_used D.crashes D.seen D.images D.moment D.left_since log.side log.generation (λ (x : Bytes). x ≡ bytes) (HoldsOf log.version log.generation batches) old c.read.new.disk told
     (beside_holds (D.crashes old) (D.seen old) (D.images old) log.side log.generation rewriter copied kept.beside)
     (c.read.ensures.same bytes was)
-    (λ x here behind. holds x log.side log.version log.generation batches (subst (StandsFor log.version log.generation batches) (sym here) safe.has) behind)
+    (λ x here behind. holds_of x log.side log.version log.generation batches (subst (StandsFor log.version log.generation batches) (sym here) safe.has) behind)

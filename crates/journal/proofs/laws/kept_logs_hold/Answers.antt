@@ -1,4 +1,4 @@
-use Rattle.journal.specs.KeptLaws.{kept_told, kept_now, kept_images, kept_generation}
+use Rattle.journal.specs.KeptLaws.{kept_told, kept_now, kept_left, kept_generation}
 use Rattle.journal.proofs.laws.kept_logs_hold.Goals as goal
 
 pub returns-clause-told : goal.returns-clause-told
@@ -17,7 +17,7 @@ pub returns-clause-images : goal.returns-clause-images
 returns-clause-images g c batches copied kept =
     let D = g.D.Disk in
     let j = c.args.journal.now in
-    kept_images (D.crashes j.disk) (D.seen j.disk) (D.images j.disk) j.log.side j.log.version j.log.generation j.log.gate j.rewriter batches copied kept
+    kept_left (D.crashes j.disk) (D.seen j.disk) (D.images j.disk) j.log.side j.log.version j.log.generation j.log.gate j.rewriter batches copied kept
 
 pub returns-clause-generation : goal.returns-clause-generation
 returns-clause-generation g c batches copied kept =

@@ -8,7 +8,7 @@ returns-clause-follows g c = told_shut c.args.terms c.follow_named-stop.result c
     (g.W.WaitForLinks.shows c.shut.new.wait) (g.K.Sink.held c.args.sink.now) (g.K.Sink.held c.follow_named-stop.new.sink)
     (g.K.Sink.faults c.args.sink.now) (g.K.Sink.faults c.follow_named-stop.new.sink) c.follow_named-stop.new.follower
     (c.follow_named-stop.ensures.keeps c.args.copied.node (g.L.Link.ReadyLink.shows c.args.link) c.args.copied.told (g.K.Sink.held c.args.sink.now)
-        (begun_telling c.args.terms c.args.copied.node (g.L.Link.ReadyLink.shows c.args.link) c.args.copied.told (g.K.Sink.held c.args.sink.now)
-            c.new-follower.result c.new-follower.ensures.first))
+    (begun_telling c.args.terms c.args.copied.node (g.L.Link.ReadyLink.shows c.args.link) c.args.copied.told (g.K.Sink.held c.args.sink.now)
+    c.new-follower.result c.new-follower.ensures.first))
     c.into_parts-link.ensures.node c.into_parts-link.ensures.link c.shut.ensures.shut c.follow_named-stop.ensures.shut c.shut.ensures.stop
     c.shut.ensures.over c.follow_named-stop.ensures.wait c.shut.ensures.wait c.follow_named-stop.ensures.why

@@ -6,4 +6,4 @@ returns-in-Err-clause-why g c = nobody_later c.args.terms c.in-Err.stop (g.W.Wai
     (g.L.ReadyDoor.shows c.args.door.now) (g.L.ReadyDoor.shows c.loop.door) (g.L.ReadyDoor.shows c.look.new.door)
     (g.W.WaitForLinks.shows c.args.wait.now).faults (g.W.WaitForLinks.shows c.loop.wait).faults c.loop.invariant.door c.loop.invariant.looks
     (c.in-Err.ensures.why (g.W.WaitForLinks.shows c.args.wait.now).faults (g.W.WaitForLinks.shows c.loop.wait).faults
-        (g.W.WaitForLinks.shows c.loop.wait).over)
+    (g.W.WaitForLinks.shows c.loop.wait).over)

@@ -1,6 +1,6 @@
 use Rattle.std.proofs.Common.{ap}
 use Rattle.shared_hall.specs.Turns.{retire_outcome}
-use Rattle.shared_hall.specs.Seats.{first_writing, knows_of}
+use Rattle.shared_hall.specs.Seats.{first_writing, handed_of, knows_of}
 use Rattle.tile_top.proofs.Fronting.{behind_as, counts_as, given_left, given_well, given_written}
 use Rattle.tile_top.proofs.serves.retire_hall.Goals as goal
 
@@ -14,7 +14,7 @@ returns-in-Some-clause-front g c = record {
 pub returns-in-Some-clause-safe : goal.returns-in-Some-clause-safe
 returns-in-Some-clause-safe g c told =
     let r = c.retire-given.ensures in
-    given_left g.D.Disk.images g.D.Disk.left_since (knows_of c.args.seat) (knows_of c.retire-given.new.seat) c.retire-given.result (c.in-Some.disk, c.in-Some.answer) c.in-Some.is r.entry (r.safe told) (r.stands told)
+    given_left g.D.Disk.seen g.D.Disk.images g.D.Disk.moment g.D.Disk.left_since (handed_of c.args.hall.now) (first_writing c.args.hall.now) (knows_of c.args.seat) (knows_of c.retire-given.new.seat) c.retire-given.result (c.in-Some.disk, c.in-Some.answer) c.in-Some.is r.entry (r.safe told) (r.stands told) (r.lasts told) (r.carries told)
 
 pub returns-in-None-clause-front : goal.returns-in-None-clause-front
 returns-in-None-clause-front g c = record {

@@ -5,7 +5,7 @@ use Rattle.durable_core.proofs.tails.Tail.copy.Goals as goal
 pub returns-in-Ok-clause-log : goal.returns-in-Ok-clause-log
 returns-in-Ok-clause-log g c from j was is kept =
     let D = g.D.Disk in
-    copied_on D.crashes D.seen D.images D.moment D.left_since c.args.self.now _ j kept from c.args.next c.copy.ensures.version was is c.in-Ok.ensures.kept c.in-Ok.ensures.leaves c.requires.committed c.in-Ok.ensures.pending refl
+    copied_on D.crashes D.seen D.images D.moment D.left_since c.args.self.now _ j kept from c.args.next c.copy.ensures.version c.copy.ensures.generation was is c.in-Ok.ensures.kept c.in-Ok.ensures.leaves c.requires.committed c.in-Ok.ensures.pending refl
 
 pub returns-in-Err-clause-log : goal.returns-in-Err-clause-log
 returns-in-Err-clause-log g c from j was is kept =

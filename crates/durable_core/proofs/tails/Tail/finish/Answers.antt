@@ -5,7 +5,7 @@ use Rattle.durable_core.proofs.tails.Tail.finish.Goals as goal
 pub returns-in-Ok-clause-log : goal.returns-in-Ok-clause-log
 returns-in-Ok-clause-log g c last j was none kept =
     let D = g.D.Disk in
-    finished D.crashes D.seen D.images D.moment D.left_since c.args.self.now _ j kept last was none c.in-Ok.ensures.version c.in-Ok.ensures.kept c.in-Ok.ensures.leaves c.requires.committed c.in-Ok.ensures.pending refl
+    finished D.crashes D.seen D.images D.moment D.left_since c.args.self.now _ j kept last was none c.in-Ok.ensures.version c.in-Ok.ensures.generation c.in-Ok.ensures.kept c.in-Ok.ensures.leaves c.requires.committed c.in-Ok.ensures.pending refl
 
 pub returns-in-Err-clause-log : goal.returns-in-Err-clause-log
 returns-in-Err-clause-log g c last j was none kept =

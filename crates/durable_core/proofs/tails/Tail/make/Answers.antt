@@ -43,3 +43,6 @@ returns-in-Copy-clause-rewriting g c w is =
     let gate = new_gate old.journal.rewriter in
     let copies = subst (IsNextStep old.rewriting gate w) c.in-Copy.is is in
     on_ok_weaker c.copy.result (copy_rewriting old.rewriting c.copy.new.self.rewriting gate w c.in-Copy.next copies) c.copy.ensures.rewriting
+
+pub returns-in-Begin-clause-log : goal.returns-in-Begin-clause-log
+returns-in-Begin-clause-log g c j kept next = c.begin.ensures.log j kept

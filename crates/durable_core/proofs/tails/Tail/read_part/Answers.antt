@@ -8,7 +8,7 @@ use Rattle.durable_core.proofs.tails.Tail.read_part.Goals as goal
 pub returns-in-Ok-clause-log : goal.returns-in-Ok-clause-log
 returns-in-Ok-clause-log g c j kept =
     let D = g.D.Disk in
-    read_on D.crashes D.seen D.images D.moment D.left_since c.args.self.now _ j kept (rw c.read.ensures.log refl) c.in-Ok.ensures.kept c.in-Ok.ensures.leaves c.requires.committed
+    read_on D.crashes D.seen D.images D.moment D.left_since c.args.self.now _ j kept (rw c.read.ensures.log refl) (rw c.read.ensures.log refl) c.in-Ok.ensures.kept c.in-Ok.ensures.leaves c.requires.committed
     (rw c.read.ensures.log c.requires.committed) refl
 
 pub returns-in-Err-clause-log : goal.returns-in-Err-clause-log

@@ -3,7 +3,7 @@ use Rattle.std.proofs.lemmas.Result.{on_ok_weaker}
 use Rattle.outside.specs.CrashLaws.{then, weaker}
 use Rattle.log_sides.specs.Sealing.{written_short}
 use Rattle.log_sides.specs.Texts.{committed, written}
-use Rattle.journal.specs.Logs.{HoldsLog, HoldsEither}
+use Rattle.journal.specs.Logs.{HoldsOf, HoldsRound}
 use Rattle.journal.specs.Keeping.{new_gate}
 use Rattle.journal.proofs.Steps.{kept_same, new_gate_small, written_fits}
 use Rattle.journal.proofs.journals.Journal.commit_both.Goals as goal
@@ -32,8 +32,8 @@ returns-in-Ok-clause-leaves g c batches copied kept told =
     let mid = c.commit_log.new.disk in
     let new = c.mirror_batch.new.disk in
     let all = committed batches j.log.pending in
-    then D.moment D.left_since j.disk mid new (HoldsEither j.log.version batches j.log.version all) (c.in-Ok.ensures.leaves j.rewriter batches copied kept told)
-    (weaker D.moment D.left_since mid new (HoldsLog j.log.version all) (HoldsEither j.log.version batches j.log.version all) (λ x holds. inr holds)
+    then D.moment D.left_since j.disk mid new (HoldsRound j.log.version j.log.generation batches all) (c.in-Ok.ensures.leaves j.rewriter batches copied kept told)
+    (weaker D.moment D.left_since mid new (HoldsOf j.log.version j.log.generation all) (HoldsRound j.log.version j.log.generation batches all) (λ x holds. inr holds)
     (c.mirror_batch.ensures.leaves j.log.side j.log.version j.log.generation log.gate all copied (c.in-Ok.ensures.kept j.rewriter batches copied kept) (c.in-Ok.ensures.told ∙ told)))
 
 pub returns-in-Ok-clause-new_gate : goal.returns-in-Ok-clause-new_gate

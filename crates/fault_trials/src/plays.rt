@@ -1,6 +1,7 @@
 //! Scripts are played, and memory is refused at each place in turn.
 
 use crate::faults::Fault;
+use crate::follow_lines::{has_follows, push_follows};
 use crate::growths::RefuseNth;
 use crate::scripts::{Step, step_of};
 use crate::stages::{Counts, Stage};
@@ -144,7 +145,11 @@ pub(crate) fn play_all(alloc: Global, text: &[u8]) -> Result<Text, Fault> {
         if is_first {
             is_once = part.lines().any(|line| line == "once");
         } else if let Some((name, script)) = part.split_once('\n') {
-            play_script(alloc, &mut out, name, script, is_once)?;
+            if has_follows(script) {
+                push_follows(alloc, &mut out, name, script, is_once)?;
+            } else {
+                play_script(alloc, &mut out, name, script, is_once)?;
+            }
         }
         is_first = false;
     }
